@@ -1,0 +1,14 @@
+//! The base of every layer: names and texts, the places of cells, and the outside.
+#![tactic(auto)]
+
+mod address;
+mod label;
+mod name;
+mod source_bytes;
+mod text_value;
+
+pub use address::{Address, Area};
+pub use label::Label;
+pub use name::Name;
+pub use source_bytes::SourceBytes;
+pub use text_value::TextValue;

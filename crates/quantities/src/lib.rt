@@ -1,0 +1,8 @@
+//! Fixed-point numbers with nine decimals, and numbers with units.
+#![tactic(auto)]
+
+mod amount;
+mod quantity;
+
+pub use amount::{Amount, Range};
+pub use quantity::Quantity;
