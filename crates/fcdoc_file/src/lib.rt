@@ -1,0 +1,4 @@
+//! Documents as text.
+#![tactic(auto)]
+
+mod cursor;
