@@ -9,6 +9,6 @@ mod text_value;
 
 pub use address::{Address, Area};
 pub use label::Label;
-pub use name::Name;
+pub use name::{Name, NameFault};
 pub use source_bytes::SourceBytes;
 pub use text_value::TextValue;
