@@ -2,12 +2,16 @@
 #![tactic(auto)]
 
 mod address;
+mod devices;
+mod faults;
 mod label;
 mod name;
 mod source_bytes;
 mod text_value;
 
 pub use address::{Address, Area};
+pub use devices::{Sink, Store};
+pub use faults::{DeviceFault, FetchFault};
 pub use label::Label;
 pub use name::{Name, NameFault};
 pub use source_bytes::SourceBytes;
