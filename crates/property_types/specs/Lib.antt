@@ -1,0 +1,5 @@
+pub mod Values
+pub mod Sorts
+pub mod Types
+pub mod Fits
+pub mod Plans
