@@ -129,14 +129,14 @@ none_unless None impossible = refl
 none_unless (Some x) impossible = absurd (impossible x refl)
 
 -- a text that does not parse is no numeral
-pub numeral-fails : {E : Type 0} (digits : List ℕ) (r : Result ℕ E) → ParsesUnsigned 32 10 digits r → ((n : ℕ) → r ≡ Ok n → ⊥) → None ≡ numeral digits
-numeral-fails digits r parses fails = none_unless (numeral digits) (λ n found. fails n (parse-numeral digits r n parses found))
+pub numeral-fails : (digits : List ℕ) (parsed : Option ℕ) → ((n : ℕ) → numeral digits ≡ Some n → parsed ≡ Some n) → parsed ≡ None → None ≡ numeral digits
+numeral-fails digits parsed parses fails = none_unless (numeral digits) (λ n found. let is = parses n found in absurd (cc))
 
 -- a text that parses as a number which it does not spell is no numeral
-pub numeral-differs : {E : Type 0} (digits : List ℕ) (r : Result ℕ E) (number : ℕ) → ParsesUnsigned 32 10 digits r → r ≡ Ok number
+pub numeral-differs : (digits : List ℕ) (parsed : Option ℕ) (number : ℕ) → ((n : ℕ) → numeral digits ≡ Some n → parsed ≡ Some n) → parsed ≡ Some number
     → (digits ≡ decimal number → 0 < number → ⊥) → None ≡ numeral digits
-numeral-differs digits r number parses ok differs = none_unless (numeral digits) (λ n found.
+numeral-differs digits parsed number parses is differs = none_unless (numeral digits) (λ n found.
     let facts = numeral_some digits n found in
-    let parsed = parse-numeral digits r n parses found in
+    let also = parses n found in
     let same : n ≡ number = cc in
     differs (facts.0 ∙ ap decimal same) (subst (λ (m : ℕ). 0 < m) same facts.1))

@@ -1,9 +1,9 @@
 //! A text that is read from its front.
 
-ghost use Rattle.std.specs.Prelude.{◌≡◌, option_map, IfOk};
+ghost use Rattle.std.specs.Prelude.{◌≡◌, option_map};
 ghost use Rattle.fcdoc_file.specs.Cursor.{after, quoted, numeral};
 
-use std::alloc::{AllocError, Global};
+use itoa::Buffer;
 
 /// What follows the literal, where the text begins with it.
 pub(crate) fn after<'a>(literal: &str, text: &'a str) -> Option<&'a str>
@@ -20,17 +20,14 @@ pub(crate) fn quoted(text: &str) -> Option<(&str, &str)>
 }
 
 /// The number above 0 whose one spelling the digits are, where it is below 2^32.
-pub(crate) fn numeral(alloc: Global, digits: &str) -> Result<Option<u32>, AllocError>
-    ensures { IfOk result (λ n. n ≡ numeral digits.now) }
+pub(crate) fn numeral(digits: &str) -> Option<u32>
+    ensures { result ≡ numeral digits.now }
 {
-    let Ok(number) = digits.parse::<u32>() else {
-        return Ok(None);
-    };
-    let spelling = format!(in alloc; "{number}")?;
-    let is_spelled_so = spelling.as_str() == digits;
-    Ok(if number > 0 && is_spelled_so {
+    let number = digits.parse::<u32>().ok()?;
+    let mut buffer = Buffer::new();
+    if number > 0 && buffer.format(number) == digits {
         Some(number)
     } else {
         None
-    })
+    }
 }
