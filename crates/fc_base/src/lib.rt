@@ -2,9 +2,14 @@
 #![tactic(auto)]
 
 mod address;
+mod call_counter;
+#[cfg(test)]
+mod device_tests;
 mod devices;
 mod faults;
 mod label;
+mod memory_sink;
+mod memory_store;
 mod name;
 mod source_bytes;
 mod text_value;
@@ -13,6 +18,8 @@ pub use address::{Address, Area};
 pub use devices::{Sink, Store};
 pub use faults::{DeviceFault, FetchFault};
 pub use label::Label;
+pub use memory_sink::MemorySink;
+pub use memory_store::MemoryStore;
 pub use name::Name;
 pub use source_bytes::SourceBytes;
 pub use text_value::TextValue;
