@@ -2,10 +2,15 @@
 #![tactic(auto)]
 
 mod address;
+mod call_counter;
+#[cfg(test)]
+mod device_tests;
 mod devices;
 mod faults;
 mod ids;
 mod label;
+mod memory_sink;
+mod memory_store;
 mod name;
 mod source_bytes;
 mod steps;
@@ -17,6 +22,10 @@ pub use faults::{DeviceFault, FetchFault};
 pub use ids::{ObjectId, SlotId};
 pub use label::{Label, LabelFault};
 pub use name::{Name, NameFault};
+pub use label::Label;
+pub use memory_sink::MemorySink;
+pub use memory_store::MemoryStore;
+pub use name::Name;
 pub use source_bytes::SourceBytes;
 pub use steps::Steps;
 pub use text_value::{TextFault, TextValue};
