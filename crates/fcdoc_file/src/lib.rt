@@ -2,3 +2,7 @@
 #![tactic(auto)]
 
 mod cursor;
+mod fault;
+mod reading;
+
+pub use fault::LoadError;

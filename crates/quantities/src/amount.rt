@@ -102,7 +102,7 @@ impl Amount {
     /// The amount whose text with nine decimals this is, as `write_nine` writes it, and none for
     /// every other text.
     pub fn read_nine(text: &[u8]) -> Option<Amount>
-        ensures found { IfSome result (λ a. text.now ≡ nine_text a) }
+        ensures found { IfSome result (λ a. (text.now ≡ nine_text a) × IsAmount a) }
         ensures only { (a : ℤ) → IsAmount a → text.now ≡ nine_text a → result ≡ Some a }
     {
         let amount = Amount::of_digits(text)?;
