@@ -4,3 +4,5 @@ pub mod Devices
 pub mod Calls
 pub mod MemoryStores
 pub mod MemorySinks
+pub mod Readings
+pub mod Adapters
