@@ -1,7 +1,9 @@
 -- Documents: lists of objects, each with what stands in it. No numbers of slots, marks, orders or
 -- outcomes are part of a document.
 use Rattle.std.specs.Prelude.{ℕ, List, Option}
+use Rattle.std.specs.List.{find}
 use Rattle.fc_base.specs.Places.{Place}
+use Rattle.object_paths.specs.Slots.{same_text}
 use Rattle.object_paths.specs.declared.slot_name.SlotName.{SlotName}
 use Rattle.property_types.specs.declared.prop_type.PropType.{PropType}
 use Rattle.document_model.specs.declared.content.Content.{Content}
@@ -60,3 +62,11 @@ pub record Document : Type 0 where
   pub before : List (List ℕ)
   pub between : List (List ℕ)
   pub after : List (List ℕ)
+
+-- the first object of that name
+abbrev pub object_named : Document → List ℕ → Option Object
+object_named d name = find (λ o. same_text o.name name) d.objects
+
+-- the first object of that label
+abbrev pub object_labelled : Document → List ℕ → Option Object
+object_labelled d label = find (λ o. same_text o.label label) d.objects
