@@ -4,3 +4,7 @@ pub mod TypedSlots
 pub mod Slots
 pub mod Resolution
 pub mod Dependencies
+pub mod Contents
+pub mod WellFormed
+pub mod Examples
+pub mod LinkedBox

@@ -3,6 +3,7 @@
 
 mod content;
 mod kind;
+pub mod laws;
 mod status;
 
 pub use content::Content;
