@@ -2,6 +2,7 @@
 use Rattle.std.specs.Prelude.{ℕ, Bool, false, ◌&&◌, ◌||◌, ◌==◌, nat_lt, nat_le, not, List, [], ◌∷◌, length}
 use Rattle.std.specs.List.{list_all, list_any}
 use Rattle.std.specs.Str.{chars, is_utf8}
+use Rattle.std.specs.Char.{is_ascii_alphanumeric}
 use Rattle.unicode_ident.specs.Ident.{is_xid_start, is_xid_continue}
 
 -- a character that may stand first in a name: an XID start character or `_`
@@ -16,6 +17,10 @@ spells_name (c ∷ cs) = begins_name c && list_all is_xid_continue cs
 -- a Name: a text of 1 to 64 bytes that spells a name
 abbrev pub is_name : List ℕ → Bool
 is_name text = is_utf8 text && nat_le (length text) 64 && spells_name (chars text)
+
+-- a byte that can stand in a name: an ASCII letter, a digit, `_`, or part of a character past ASCII
+abbrev pub is_name_byte : ℕ → Bool
+is_name_byte b = nat_le 128 b || is_ascii_alphanumeric b || (b == 95)
 
 -- a control character is one below U+0020, and in UTF-8 it is that byte
 abbrev pub is_control : ℕ → Bool

@@ -1,10 +1,16 @@
-ghost use Rattle.std.specs.Prelude.{◌≡◌, nat_eq, Some, refl};
+ghost use Rattle.std.specs.Prelude.{◌≡◌, ◌↔◌, ◌||◌, ◌==◌, ◌<◌, length, false, nat_eq, Some, refl, IsTrue, IfOk, IsErrOf};
 ghost use Rattle.std.specs.Cmp.{partial_equiv_from_equiv};
 ghost use Rattle.std.specs.Cmp.Lexicographic.{slice_cmp, pointwise, nat_list_eq_equiv, nat_list_cmp_total, texts_po, texts_ties};
 ghost use Rattle.std.specs.Ordering.{nat_cmp};
+ghost use Rattle.std.specs.List.{list_all, AllPass};
+ghost use Rattle.std.specs.Str.{chars};
+ghost use Rattle.unicode_ident.specs.Ident.{is_xid_continue};
+ghost use Rattle.fc_base.specs.Texts.{begins_name, spells_name, is_name, is_name_byte};
 
+use std::alloc::{AllocError, Global};
 use std::cmp::Ordering;
 use std::marker::Model;
+use thiserror::Error;
 
 /// A name of an object or a property: 1 to 64 bytes, an XID start character or `_` and then XID
 /// continue characters (Unicode Standard Annex 31). It is seen as the list of its bytes.
@@ -24,10 +30,79 @@ impl Model for Name {
     ghost invariant = { λ n. IsTrue (is_name (string_bytes n.text)) };
 }
 
+/// Why a text was not read as a name.
+#[derive(Debug, Drop, Error)]
+pub enum NameFault {
+    /// It is not 1 to 64 bytes, an XID start character or `_` and then XID continue characters.
+    #[error("not a name")]
+    BadName,
+    #[error("out of memory")]
+    Memory(AllocError),
+}
+
+/// The most bytes that a name has.
+const MOST_BYTES: usize = 64;
+
+/// Whether a name may begin with the character.
+fn begins_name(character: char) -> bool
+    ensures { result ≡ begins_name character }
+{
+    unicode_ident::is_xid_start(character) || character == '_'
+}
+
+/// Whether each character may go on in a name.
+fn all_continue(text: &str) -> bool
+    ensures { result ≡ list_all is_xid_continue (chars text.now) }
+{
+    text.chars().all(unicode_ident::is_xid_continue)
+}
+
+/// Whether the first character may begin a name and each further one go on in it.
+fn spells_name(text: &str) -> bool
+    ensures { result ≡ spells_name (chars text.now) }
+{
+    let mut characters = text.chars();
+    match characters.next() {
+        Some(first) => begins_name(first) && all_continue(characters.as_str()),
+        None => false,
+    }
+}
+
 impl Name {
+    /// Whether the text is a name: 1 to 64 bytes, an XID start character or `_` and then XID
+    /// continue characters (Unicode Standard Annex 31).
+    pub fn is_name(text: &str) -> bool
+        ensures value { result ≡ is_name text.now }
+        ensures nonempty { IsTrue result → 0 < length text.now }
+        ensures bytes { IsTrue result → AllPass is_name_byte text.now }
+    {
+        text.len() <= MOST_BYTES && spells_name(text)
+    }
+
+    /// Reads a name. BadName comes exactly where the text is none.
+    pub fn read(alloc: Global, text: &str) -> Result<Name, NameFault>
+        ensures found { IfOk result (λ name. (name ≡ text.now) × IsTrue (is_name text.now)) }
+        ensures refused { IsErrOf result NameFault.BadName ↔ (is_name text.now ≡ false) }
+    {
+        if !Name::is_name(text) {
+            return Err(NameFault::BadName);
+        }
+        let text = String::from_str(alloc, text).map_err(NameFault::Memory)?;
+        Ok(Name { text })
+    }
+
+    /// An equal name.
+    pub fn copy(&self, alloc: Global) -> Result<Name, AllocError>
+        ensures { IfOk result (λ name. name ≡ self.now) }
+    {
+        let text = String::from_str(alloc, self.text.as_str())?;
+        Ok(Name { text })
+    }
+
     /// The name as text.
     pub fn as_str(&self) -> &str
-        ensures { result.now ≡ self.now }
+        ensures text { result.now ≡ self.now }
+        ensures name { IsTrue (is_name self.now) }
     {
         self.text.as_str()
     }
@@ -68,5 +143,36 @@ impl Ord for Name {
 
     fn cmp(&self, other: &Name) -> Ordering {
         self.as_str().cmp(other.as_str())
+    }
+}
+
+#[cfg(test)]
+mod tests {
+    use super::*;
+    use std::test::Fail;
+
+    #[test]
+    fn reads_names(rt: HostRuntime) -> Result<(), Fail> {
+        for text in ["V", "_", "_9", "Box001", "größe", "长度"] {
+            let name = Name::read(rt.alloc(), text)?;
+            assert_eq!(rt; name.as_str(), text);
+            assert!(rt; name.copy(rt.alloc())? == name, "a copy of {text}");
+        }
+        Ok(())
+    }
+
+    #[test]
+    fn refuses_what_is_no_name(rt: HostRuntime) -> Result<(), Fail> {
+        for text in ["", "9a", "a b", "a.b", "-", "a-b", "é!", "$A"] {
+            assert!(rt;
+                matches!(Name::read(rt.alloc(), text), Err(NameFault::BadName)),
+                "{text}"
+            );
+        }
+        let long = "a23456789b123456789c123456789d123456789e123456789f123456789g1234";
+        assert_eq!(rt; Name::read(rt.alloc(), long)?.as_str().len(), 64);
+        let longer = "a23456789b123456789c123456789d123456789e123456789f123456789g12345";
+        assert!(rt; matches!(Name::read(rt.alloc(), longer), Err(NameFault::BadName)));
+        Ok(())
     }
 }
