@@ -4,3 +4,4 @@ pub mod Nodes
 pub mod Levels
 pub mod TreeFalls
 pub mod References
+pub mod Spelled

@@ -2,6 +2,9 @@
 use Rattle.std.specs.Prelude.{◌≡◌, ◌↔◌, ℤ, Bool, true, false, not, ◌&&◌, nat_eq, List, IsTrue, Result}
 use Rattle.std.specs.Cmp.Lexicographic.{pointwise}
 use Rattle.std.specs.Ordering.{int_eq}
+use Rattle.fc_base.specs.Texts.{is_text_value}
+use Rattle.unit_signatures.specs.Units.{IsUnit}
+use Rattle.quantities.specs.Amounts.{IsAmount}
 use Rattle.quantities.specs.declared.quantity.Quantity.{Quantity}
 use Rattle.property_types.specs.declared.value.ValueFault.{ValueFault}
 use Rattle.property_types.specs.declared.value.Value.{Value}
@@ -34,3 +37,9 @@ same_value _ _ = false
 -- the test of values holds exactly between equal values
 abbrev pub SameValueIsEquality : Type 0
 SameValueIsEquality = (a b : Value) → IsTrue (same_value a b) ↔ (a ≡ b)
+
+-- a number that is an amount of a unit, a flag, or a text of a property
+abbrev pub IsValue : Value → Type 0
+IsValue (Number q) = IsAmount q.amount × IsUnit q.unit
+IsValue (Flag b) = Unit {0}
+IsValue (Text t) = IsTrue (is_text_value t)

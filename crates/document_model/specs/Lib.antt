@@ -1,0 +1,10 @@
+pub mod Document
+pub mod Ends
+pub mod TypedSlots
+pub mod Slots
+pub mod Resolution
+pub mod Dependencies
+pub mod Contents
+pub mod WellFormed
+pub mod Examples
+pub mod LinkedBox
