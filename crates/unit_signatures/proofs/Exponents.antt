@@ -100,3 +100,17 @@ pub filled-more : (F : ℕ → ℤ) (ws : List ℤ) (i : ℕ) (v : ℤ) → i < 
     → ((k : ℕ) → k < i → get_or ws k (pos 0) ≡ F k) → (k : ℕ) → k < i + 1 → get_or (set ws i v) k (pos 0) ≡ F k
 filled-more F ws i v within e before k below =
     ap (λ x. get_or (set ws i x) k (pos 0)) e ∙ fill_by_more F ws i (pos 0) within before k below
+
+list_all-at : {A : Type 0} (p : A → Bool) (xs : List A) (i : ℕ) (d : A) → list_all p xs ≡ true → p d ≡ true → p (get_or xs i d) ≡ true
+list_all-at p [] i d all e = e
+list_all-at p (x ∷ xs) zero d all e =
+    elim (p x) as (λ b. b && list_all p xs ≡ true → b ≡ true) [ true ↦ λ h. refl | false ↦ λ h. h ] all
+list_all-at p (x ∷ xs) (suc i) d all e =
+    list_all-at p xs i d (elim (p x) as (λ b. b && list_all p xs ≡ true → list_all p xs ≡ true) [ true ↦ λ h. h | false ↦ λ h. absurd (cc) ] all) e
+
+-- an exponent of a unit fits eight bits
+pub exponent-at : (es : List ℤ) (i : ℕ) → list_all is_exponent es ≡ true → to_z w8 (of_z w8 (get_or es i (pos 0))) ≡ get_or es i (pos 0)
+exponent-at es i all =
+    let e : ℤ = get_or es i (pos 0) in
+    let small = exponent_fits e (list_all-at is_exponent es i (pos 0) all refl) in
+    to_z-of_z w8 e (record { sfits = omega (arith, small) })

@@ -3,3 +3,4 @@ pub mod Rows
 pub mod Table
 pub mod UnitTexts
 pub mod Units
+pub mod Written

@@ -3,6 +3,7 @@
 
 mod table;
 mod unit;
+mod writing;
 
 pub use table::unit_named;
 pub use unit::{ExponentRange, Unit};
