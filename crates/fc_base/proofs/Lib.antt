@@ -1,2 +1,4 @@
+pub mod AddressLemmas
 pub mod NameLemmas
+pub mod RowLemmas
 pub mod TextLemmas

@@ -1,2 +1,3 @@
-pub mod Texts
+pub mod AddressParts
 pub mod Places
+pub mod Texts
