@@ -1,0 +1,7 @@
+pub mod Tree
+pub mod TreeCode
+pub mod Nodes
+pub mod Levels
+pub mod TreeFalls
+pub mod References
+pub mod Spelled

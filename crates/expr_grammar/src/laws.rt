@@ -1,0 +1,14 @@
+//! Laws of the definitions, each as the contract of a function with nothing to do.
+ghost use Rattle.expr_grammar.specs.References.{ReferencesAreCounted, ReferencesAreChanged};
+
+/// The references of a tree are as many as are counted, so their numbers begin at 0 and leave none
+/// out.
+pub fn references_are_counted()
+    ensures { ReferencesAreCounted }
+{}
+
+/// Where each path and each area of a tree is changed, its references are the changed ones, in
+/// their order.
+pub fn references_are_changed()
+    ensures { ReferencesAreChanged }
+{}

@@ -1,0 +1,4 @@
+pub mod Slots
+pub mod Order
+pub mod Addresses
+pub mod Paths

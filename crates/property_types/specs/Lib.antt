@@ -1,0 +1,7 @@
+pub mod Values
+pub mod Sorts
+pub mod Types
+pub mod Fits
+pub mod Reserved
+pub mod Plans
+pub mod SoundPlans
