@@ -2,3 +2,4 @@ pub mod AddressLemmas
 pub mod NameLemmas
 pub mod RowLemmas
 pub mod TextLemmas
+pub mod HeldLemmas

@@ -1,3 +1,7 @@
+pub mod Texts
 pub mod AddressParts
 pub mod Places
-pub mod Texts
+pub mod Devices
+pub mod Calls
+pub mod MemoryStores
+pub mod MemorySinks

@@ -2,16 +2,27 @@
 #![tactic(auto)]
 
 mod address;
+mod call_counter;
+#[cfg(test)]
+mod device_tests;
+mod devices;
+mod faults;
 mod ids;
 mod label;
+mod memory_sink;
+mod memory_store;
 mod name;
 mod source_bytes;
 mod steps;
 mod text_value;
 
 pub use address::{Address, Area};
+pub use devices::{Sink, Store};
+pub use faults::{DeviceFault, FetchFault};
 pub use ids::{ObjectId, SlotId};
 pub use label::{Label, LabelFault};
+pub use memory_sink::MemorySink;
+pub use memory_store::MemoryStore;
 pub use name::{Name, NameFault};
 pub use source_bytes::SourceBytes;
 pub use steps::Steps;

@@ -3,6 +3,7 @@
 
 mod amount;
 mod quantity;
+mod texts;
 
 pub use amount::{Amount, Range};
 pub use quantity::Quantity;

@@ -1,1 +1,2 @@
+pub mod UnitTexts
 pub mod Units

@@ -1,0 +1,10 @@
+-- What a reading answers, by what there is to read.
+use Rattle.std.specs.Prelude.{◌≡◌, Option, None, Some, Result, Ok, Err, ⊤}
+use Rattle.fcdoc_file.specs.declared.fault.LoadError.{LoadError}
+use Rattle.fcdoc_file.specs.declared.fault.LoadError.TheVariants.{NotBuilt, Memory}
+
+-- what was found, seen by view, is what there is; NotBuilt where there is nothing. Of memory nothing is said
+abbrev pub Gives : {X Y : Type 0} → (X → Y) → Result X LoadError → Option Y → Type 0
+Gives view (Ok x) there = there ≡ Some (view x)
+Gives view (Err NotBuilt) there = there ≡ None
+Gives view (Err (Memory e)) there = ⊤
