@@ -1,2 +1,5 @@
+pub mod Products
+pub mod Rows
+pub mod Table
 pub mod UnitTexts
 pub mod Units
