@@ -1,4 +1,5 @@
 pub mod Texts
+pub mod AddressParts
 pub mod Places
 pub mod Devices
 pub mod Calls
