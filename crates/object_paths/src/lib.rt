@@ -4,6 +4,7 @@
 pub mod laws;
 mod path;
 mod slot_name;
+mod writing;
 
 pub use path::{Owner, Path};
 pub use slot_name::{Component, SlotName};
