@@ -1,4 +1,5 @@
 pub mod Amounts
 pub mod Arithmetic
 pub mod Digits
+pub mod Quantities
 pub mod Texts

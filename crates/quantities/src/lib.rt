@@ -4,9 +4,12 @@
 mod amount;
 mod amount_fault;
 mod arithmetic;
+mod of_unit;
 mod quantity;
+mod quantity_fault;
 mod texts;
 
 pub use amount::{Amount, Range};
 pub use amount_fault::AmountFault;
 pub use quantity::Quantity;
+pub use quantity_fault::QuantityFault;
