@@ -1,3 +1,6 @@
+pub mod AddressLemmas
 pub mod NameLemmas
+pub mod RowLemmas
 pub mod TextLemmas
 pub mod HeldLemmas
+pub mod ReadingLemmas

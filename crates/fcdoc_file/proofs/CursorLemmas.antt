@@ -19,11 +19,13 @@ use Rattle.fcdoc_file.specs.Cursor.{after, with_byte, quoted, spells, numeral}
 
 -- a literal that stands at the front is found
 pub after-append : (literal rest : List ℕ) → after literal (literal ++ rest) ≡ Some rest
+unfolding after
 after-append [] rest = refl
 after-append (c ∷ cs) rest = rw (eq-eqb c c refl) (after-append cs rest)
 
 -- a literal that is found stands at the front
 pub after_some : (literal text rest : List ℕ) → after literal text ≡ Some rest → text ≡ literal ++ rest
+unfolding after
 after_some [] text rest e = cc
 after_some (c ∷ cs) [] rest e = absurd (cc)
 after_some (c ∷ cs) (b ∷ bs) rest e =
@@ -38,6 +40,7 @@ HasNoQuote text = AllByRecursion (λ b. eqb b 34 ≡ false) text
 
 -- the first quote is found behind a text that has none
 pub quoted-append : (front rest : List ℕ) → HasNoQuote front → quoted (front ++ 34 ∷ rest) ≡ Some (front, rest)
+unfolding quoted
 quoted-append [] rest none = refl
 quoted-append (b ∷ bs) rest none = rw (none.0, quoted-append bs rest none.1)
 
@@ -54,6 +57,7 @@ with_byte_some b bs (Some q) cut other inner e =
     subst P same (ap (λ l. b ∷ l) (inner q refl).0, (other, (inner q refl).1))
 
 pub quoted_some : (text : List ℕ) (cut : List ℕ × List ℕ) → quoted text ≡ Some cut → CutsAt text cut
+unfolding quoted
 quoted_some [] cut e = absurd (cc)
 quoted_some (b ∷ bs) cut e =
     elim (eqb b 34) as (λ t. eqb b 34 ≡ t → cond t (Some ([], bs)) (with_byte b (quoted bs)) ≡ Some cut → CutsAt (b ∷ bs) cut) [
@@ -66,6 +70,7 @@ quoted_some (b ∷ bs) cut e =
 
 -- without a quote nothing is cut off
 pub quoted-none : (text : List ℕ) → HasNoQuote text → quoted text ≡ None
+unfolding quoted
 quoted-none [] none = refl
 quoted-none (b ∷ bs) none = rw (none.0, quoted-none bs none.1)
 
@@ -110,11 +115,13 @@ spells-decimal n low high =
     both_true (both_true (lt-ltb 0 n low) (lt-ltb n 4294967296 high)) ((bytes_eq-Decides (decimal n) (decimal n)).1 refl)
 
 pub numeral-decimal : (n : ℕ) → 0 < n → n < 2 ^ 32 → numeral (decimal n) ≡ Some n
+unfolding numeral
 numeral-decimal n low high =
     let value : digits_value 10 (decimal n) ≡ n = (decimal_is_IsNumeral n (omega arith)).1 in
     rw (value, spells-decimal n low high)
 
 pub numeral_some : (digits : List ℕ) (n : ℕ) → numeral digits ≡ Some n → (digits ≡ decimal n) × (0 < n) × (n < 2 ^ 32)
+unfolding numeral
 numeral_some digits n e =
     let found = cond_some _ _ n e in
     subst (λ (m : ℕ). (digits ≡ decimal m) × (0 < m) × (m < 2 ^ 32)) found.1 (spells_facts digits (digits_value 10 digits) found.0)

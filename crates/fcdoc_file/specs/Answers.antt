@@ -1,7 +1,14 @@
 -- What a reading answers, by what there is to read.
 use Rattle.std.specs.Prelude.{◌≡◌, Option, None, Some, Result, Ok, Err, ⊤}
+use Rattle.fc_base.specs.declared.name.NameFault.{NameFault}
+use Rattle.fc_base.specs.declared.name.NameFault.TheVariants.{BadName, Memory as NameMemory}
 use Rattle.fcdoc_file.specs.declared.fault.LoadError.{LoadError}
 use Rattle.fcdoc_file.specs.declared.fault.LoadError.TheVariants.{NotBuilt, Memory}
+
+-- a text that is no name is part of no document
+abbrev pub load_error_of : NameFault → LoadError
+load_error_of BadName = NotBuilt
+load_error_of (NameMemory e) = Memory e
 
 -- what was found, seen by view, is what there is; NotBuilt where there is nothing. Of memory nothing is said
 abbrev pub Gives : {X Y : Type 0} → (X → Y) → Result X LoadError → Option Y → Type 0

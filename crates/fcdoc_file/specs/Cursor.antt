@@ -1,5 +1,5 @@
 -- Reading a text from its front: what stands there, and what follows it.
-use Rattle.std.specs.Prelude.{ℕ, ◌==◌, if◌then◌else◌, Bool, ◌&&◌, nat_lt, List, [], ◌∷◌, Option, None, Some}
+use Rattle.std.specs.Prelude.{ℕ, zero, suc, ◌+◌, ◌==◌, if◌then◌else◌, Bool, ◌&&◌, nat_lt, List, [], ◌∷◌, Option, None, Some}
 use Rattle.std.specs.Str.{bytes_eq}
 use Rattle.std.specs.Fmt.{decimal}
 use Rattle.std.specs.Str.Parse.{digits_value}
@@ -11,7 +11,7 @@ None >>= f = None
 (Some x) >>= f = f x
 
 -- what follows the literal, where the text begins with it
-abbrev pub after : List ℕ → List ℕ → Option (List ℕ)
+unfoldable pub after : List ℕ → List ℕ → Option (List ℕ)
 after [] text = Some text
 after (c ∷ cs) [] = None
 after (c ∷ cs) (b ∷ bs) = if c == b then after cs bs else None
@@ -22,7 +22,7 @@ with_byte b None = None
 with_byte b (Some cut) = Some (b ∷ cut.0, cut.1)
 
 -- what stands before the first quote, and what follows it
-abbrev pub quoted : List ℕ → Option (List ℕ × List ℕ)
+unfoldable pub quoted : List ℕ → Option (List ℕ × List ℕ)
 quoted [] = None
 quoted (b ∷ bs) = if b == 34 then Some ([], bs) else with_byte b (quoted bs)
 
@@ -31,5 +31,18 @@ abbrev pub spells : List ℕ → ℕ → Bool
 spells digits n = nat_lt 0 n && nat_lt n 4294967296 && bytes_eq (decimal n) digits
 
 -- the number above 0 and below 2 ^ 32 that the digits are the one spelling of
-abbrev pub numeral : List ℕ → Option ℕ
+unfoldable pub numeral : List ℕ → Option ℕ
 numeral digits = if spells digits (digits_value 10 digits) then Some (digits_value 10 digits) else None
+
+-- one thing for each key, read in order, and what follows
+unfoldable pub each : {K A : Type 0} → (K → List ℕ → Option (A × List ℕ)) → List K → List ℕ → Option (List A × List ℕ)
+each step [] text = Some ([], text)
+each step (key ∷ keys) text = do
+  first ← step key text
+  more ← each step keys first.1
+  Some (first.0 ∷ more.0, more.1)
+
+-- so many numbers, from the first on
+abbrev pub numbers : ℕ → ℕ → List ℕ
+numbers first zero = []
+numbers first (suc n) = first ∷ numbers (first + 1) n

@@ -1,6 +1,7 @@
 ghost use Rattle.std.specs.Prelude.{◌≡◌, alloc_error};
 ghost use Rattle.fcdoc_file.specs.declared.fault.LoadError.TheVariants.{Memory};
 
+use fc_base::NameFault;
 use std::alloc::{AllocError, AllocFailed};
 use thiserror::Error;
 
@@ -19,6 +20,19 @@ impl From<AllocError> for LoadError {
 
     fn from(cause: AllocError) -> LoadError {
         LoadError::Memory(cause)
+    }
+}
+
+impl From<NameFault> for LoadError {
+    ghost use Rattle.fcdoc_file.specs.Answers.{load_error_of};
+
+    ghost from_gives = { λ fault e. e ≡ load_error_of fault };
+
+    fn from(fault: NameFault) -> LoadError {
+        match fault {
+            NameFault::BadName => LoadError::NotBuilt,
+            NameFault::Memory(cause) => LoadError::Memory(cause),
+        }
     }
 }
 

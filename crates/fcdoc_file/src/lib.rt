@@ -4,5 +4,6 @@
 mod cursor;
 mod fault;
 mod reading;
+mod var_set;
 
 pub use fault::LoadError;

@@ -1,3 +1,6 @@
 pub mod Digits
-pub mod TextLemmas
+pub mod Nearest
+pub mod Powers
+pub mod Products
 pub mod ReadLemmas
+pub mod TextLemmas

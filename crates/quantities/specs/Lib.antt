@@ -1,3 +1,4 @@
 pub mod Amounts
+pub mod Arithmetic
 pub mod Digits
 pub mod Texts

@@ -1,7 +1,7 @@
-ghost use Rattle.std.specs.Prelude.{◌≡◌, ◌≤◌, ℤ, [], Some, OkIff, IfSome, unsigned_abs};
+ghost use Rattle.std.specs.Prelude.{◌≡◌, ◌≤◌, ℤ, pos, [], Some, OkIff, IfSome, unsigned_abs};
 ghost use Rattle.std.specs.Int.{is_negative};
 ghost use Rattle.quantities.specs.Amounts.{IsAmount, greatest};
-ghost use Rattle.quantities.specs.Texts.{decimal_text, nine_text};
+ghost use Rattle.quantities.specs.Texts.{billion, decimal_text, nine_text};
 
 use crate::texts::{
     BILLION, begins_with_minus, number_of_digits, push_needed_decimals, push_nine_decimals,
@@ -17,7 +17,7 @@ use thiserror::Error;
 pub struct Range;
 
 /// The greatest raw number of an amount.
-const GREATEST: u128 = 10_000_000_000_000_000_000_000_000_000;
+pub const GREATEST: u128 = 10_000_000_000_000_000_000_000_000_000;
 
 /// A number with nine decimals: a whole number of billionths, at most 10^28 of them on each side of
 /// zero. It is seen as that whole number.
@@ -40,6 +40,13 @@ impl Model for Amount {
 }
 
 impl Amount {
+    /// 1.
+    pub(crate) fn one() -> Amount
+        ensures { result ≡ pos billion }
+    {
+        Amount { raw: 1_000_000_000 }
+    }
+
     /// The amount of so many billionths; `Range` exactly where they are more than 10^28 on one side
     /// of zero.
     pub fn of_raw(raw: i128) -> Result<Amount, Range>
@@ -61,14 +68,14 @@ impl Amount {
     }
 
     /// The billionths without the sign.
-    fn magnitude(&self) -> u128
+    pub(crate) fn magnitude(&self) -> u128
         ensures value { result ≡ unsigned_abs self.now }
         ensures bounded { result ≤ greatest }
     {
         self.raw.unsigned_abs()
     }
 
-    fn is_negative(&self) -> bool
+    pub(crate) fn is_negative(&self) -> bool
         ensures { result ≡ is_negative self.now }
     {
         self.raw < 0

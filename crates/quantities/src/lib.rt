@@ -2,8 +2,11 @@
 #![tactic(auto)]
 
 mod amount;
+mod amount_fault;
+mod arithmetic;
 mod quantity;
 mod texts;
 
 pub use amount::{Amount, Range};
+pub use amount_fault::AmountFault;
 pub use quantity::Quantity;

@@ -20,9 +20,9 @@ returns-then-eq c =
 
 pub returns-else-number-gt0 : goal.returns-else-number-gt0
 returns-else-number-gt0 c = numeral-differs c.args.digits.now c.ok.result c.in_ok-number.number (parses (goal.at.returns-else-number-gt0 c).After-ok) c.in_ok-number.was (λ digits positive. elim c.else-number-gt0.branch [
-      else-number-gt0-via-then-number-gt0+else-eq w ↦
-        let equal = (bytes_eq-Decides w.format.result.now c.args.digits.now).1 (w.format.ensures.text ∙ sym digits) in
-        let compared = w.eq.ensures in
-        cc
-    | else-number-gt0-via-else-number-gt0 w ↦ absurd (omega arith)
-    ])
+  | else-number-gt0-via-then-number-gt0+else-eq w ↦
+      let equal = (bytes_eq-Decides w.format.result.now c.args.digits.now).1 (w.format.ensures.text ∙ sym digits) in
+      let compared = w.eq.ensures in
+      cc
+  | else-number-gt0-via-else-number-gt0 w ↦ absurd (omega arith)
+])
