@@ -1,4 +1,3 @@
 pub mod Slots
 pub mod Order
-pub mod Addresses
 pub mod Paths
