@@ -1,8 +1,10 @@
 -- The worked examples hold by computation.
 use Rattle.std.proofs.Common.{refl, lit≤}
 use Rattle.std.specs.Prelude.{IsTrue, codes}
+use Rattle.std.specs.Fmt.{digits}
 use Rattle.std.specs.Str.{is_utf8, chars}
 use lib.Utf8.{encode}
+use Rattle.fc_base.specs.Places.{address_of, address_text}
 use Rattle.fc_base.specs.Texts.{is_name}
 use Rattle.document_model.specs.Examples.{varset, OneVarsetWorks}
 use Rattle.document_model.specs.LinkedBox.{LinkedBoxWorks}
@@ -55,7 +57,7 @@ one_varset_works = record {
 }
 
 pub linked_box_works : LinkedBoxWorks
-unfolding resolve deps
+unfolding resolve deps address_of address_text digits
 linked_box_works = record {
   count = refl;
   overridden = refl;

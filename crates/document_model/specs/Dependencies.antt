@@ -2,10 +2,9 @@
 use Rattle.std.specs.Prelude.{ℕ, Bool, false, List, [], ◌∷◌, ◌++◌, map, Option, Some, None, unwrap_or, if◌then◌else◌, codes}
 use Rattle.std.specs.List.{filter, filter_map, flat_map}
 use Rattle.std.specs.Option.{option_map, option_and_then, option_map_or, option_to_list}
-use Rattle.fc_base.specs.Places.{Block}
+use Rattle.fc_base.specs.Places.{Block, is_within}
 use Rattle.object_paths.specs.declared.slot_name.SlotName.{SlotName}
 use Rattle.object_paths.specs.declared.slot_name.SlotName.TheVariants.{Plain, Component, Marked}
-use Rattle.object_paths.specs.Addresses.{is_within}
 use Rattle.object_paths.specs.Slots.{Slot}
 use Rattle.property_types.specs.Plans.{Slots}
 use Rattle.expr_grammar.specs.Tree.{Tree}

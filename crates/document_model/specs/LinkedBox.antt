@@ -7,7 +7,6 @@ use Rattle.object_paths.specs.declared.slot_name.SlotName.{SlotName}
 use Rattle.object_paths.specs.declared.slot_name.SlotName.TheVariants.{Plain, Component, Marked}
 use Rattle.object_paths.specs.declared.path.Owner.TheVariants.{Here, ByName, ByLabel}
 use Rattle.object_paths.specs.declared.path.Path.{Path}
-use Rattle.object_paths.specs.Addresses.{place_at}
 use Rattle.object_paths.specs.Slots.{Slot}
 use Rattle.property_types.specs.declared.plan.InputPlan.{InputPlan}
 use Rattle.property_types.specs.declared.plan.OutputPlan.{OutputPlan}
@@ -28,6 +27,10 @@ use Rattle.document_model.specs.Slots.{slots, type_of, rule_of, own, inherit}
 use Rattle.document_model.specs.Resolution.{resolve}
 use Rattle.document_model.specs.Dependencies.{deps, inputs_of}
 use Rattle.document_model.specs.Examples.{bare_object, document_of}
+
+-- a place without marks
+abbrev pub place_at : ℕ → ℕ → Place
+place_at column row = record { column = column; row = row; fixed_column = false; fixed_row = false }
 
 -- millimetres, and pure numbers
 abbrev pub mm : ℕ → Value

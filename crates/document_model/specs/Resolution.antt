@@ -2,13 +2,12 @@
 use Rattle.std.specs.Prelude.{ℕ, false, List, Option, Some, None}
 use Rattle.std.specs.List.{find}
 use Rattle.std.specs.Option.{option_map, option_and_then, option_or, option_map_or}
-use Rattle.fc_base.specs.Places.{Place}
+use Rattle.fc_base.specs.Places.{Place, address_of, unmarked}
 use Rattle.object_paths.specs.declared.slot_name.SlotName.{SlotName}
 use Rattle.object_paths.specs.declared.slot_name.SlotName.TheVariants.{Plain, Component, Marked}
 use Rattle.object_paths.specs.declared.path.Owner.{Owner}
 use Rattle.object_paths.specs.declared.path.Owner.TheVariants.{Here, ByName, ByLabel}
 use Rattle.object_paths.specs.declared.path.Path.{Path}
-use Rattle.object_paths.specs.Addresses.{address_of, unmarked}
 use Rattle.object_paths.specs.Slots.{Slot, same_text}
 use Rattle.document_model.specs.declared.kind.ObjectKind.{ObjectKind}
 use Rattle.document_model.specs.declared.kind.ObjectKind.TheVariants.{VarSet, Sheet, Link, Feature, Foreign}

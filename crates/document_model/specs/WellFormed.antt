@@ -2,11 +2,10 @@
 use Rattle.std.specs.Prelude.{◌≡◌, ℕ, Bool, true, false, ◌&&◌, ◌||◌, not, nat_lt, nat_le, List, [], ◌∷◌, ◌++◌, map, length, Option, is_some, IfSome, IsTrue, if◌then◌else◌, codes}
 use Rattle.std.specs.List.{list_all, filter_map, AllByRecursion}
 use Rattle.std.specs.FinMap.{is_sorted}
-use Rattle.fc_base.specs.Places.{Place, IsPlace}
+use Rattle.fc_base.specs.Places.{Place, IsPlace, looks_like_address, unmarked}
 use Rattle.fc_base.specs.Texts.{is_name, is_label, is_text_value}
 use Rattle.object_paths.specs.declared.slot_name.SlotName.{SlotName}
-use Rattle.object_paths.specs.Addresses.{looks_like_address, unmarked, cell_cmp}
-use Rattle.object_paths.specs.Order.{slot_name_cmp}
+use Rattle.object_paths.specs.Order.{slot_name_cmp, cell_cmp}
 use Rattle.object_paths.specs.Paths.{IsSlotName}
 use Rattle.object_paths.specs.Slots.{same_text}
 use Rattle.property_types.specs.declared.prop_type.PropType.{PropType}

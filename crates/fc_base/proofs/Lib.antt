@@ -4,3 +4,5 @@ pub mod RowLemmas
 pub mod TextLemmas
 pub mod HeldLemmas
 pub mod ReadingLemmas
+pub mod GraphLemmas
+pub mod CycleLemmas

@@ -7,3 +7,4 @@ pub mod MemoryStores
 pub mod MemorySinks
 pub mod Readings
 pub mod Adapters
+pub mod Graph

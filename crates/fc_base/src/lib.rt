@@ -10,6 +10,7 @@ mod faults;
 mod ids;
 mod file_store;
 mod label;
+pub mod laws;
 mod memory_sink;
 mod memory_store;
 mod name;

@@ -1,6 +1,5 @@
 pub mod Slots
 pub mod Order
-pub mod Addresses
 pub mod Paths
 pub mod PathTexts
 pub mod PathParts

@@ -1,4 +1,4 @@
--- The order of slot names: plain ones, then components, then cells with marks; in each by their parts.
+-- The orders of slot names and of cells.
 use Rattle.std.specs.Prelude.{ℕ, Bool, true, false, List}
 use Rattle.std.specs.Cmp.Lexicographic.{slice_cmp}
 use Rattle.std.specs.Ordering.{nat_cmp, ordering_then}
@@ -45,3 +45,7 @@ slot_name_cmp (Component a c) (Marked q) = Less
 slot_name_cmp (Marked p) (Plain b) = Greater
 slot_name_cmp (Marked p) (Component b d) = Greater
 slot_name_cmp (Marked p) (Marked q) = marked_cmp p q
+
+-- the order of the cells of a sheet: by row, then by column
+abbrev pub cell_cmp : Place → Place → Ordering
+cell_cmp p q = ordering_then (nat_cmp p.row q.row) (nat_cmp p.column q.column)
