@@ -4,3 +4,4 @@ pub mod Addresses
 pub mod Paths
 pub mod PathTexts
 pub mod PathParts
+pub mod Read
