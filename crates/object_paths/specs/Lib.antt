@@ -3,3 +3,4 @@ pub mod Order
 pub mod Paths
 pub mod PathTexts
 pub mod PathParts
+pub mod Read

@@ -1,6 +1,6 @@
 -- Which path a text spells. Blanks may stand round every part.
-use Rattle.std.specs.Prelude.{ℕ, Bool, ◌&&◌, ◌||◌, ◌==◌, List, [], ◌∷◌, map, reverse, drop, codes, Option, Some, None, if◌then◌else◌}
-use Rattle.std.specs.List.{slice_split, starts_with}
+use Rattle.std.specs.Prelude.{ℕ, Bool, ◌&&◌, ◌||◌, ◌==◌, List, [], ◌∷◌, map, reverse, codes, Option, Some, None, if◌then◌else◌}
+use Rattle.std.specs.List.{slice_split}
 use Rattle.std.specs.Option.{option_map, option_and_then}
 use Rattle.std.specs.Str.{bytes_eq}
 use Rattle.fc_base.specs.Places.{Place, address_of}
@@ -67,14 +67,17 @@ owned owner slot = option_map (λ s. record { owner = owner; slot = s }) slot
 abbrev pub named_path : List ℕ → List (List ℕ) → Option Path
 named_path name parts = if is_name name then owned (ByName name) (slot_of parts) else None
 
+-- an empty part in front is a leading dot, another one the name of an owner
+abbrev pub fronted_path : List ℕ → List (List ℕ) → Option Path
+fronted_path front rest = if bytes_eq front [] then owned Here (slot_of rest) else named_path front rest
+
 -- parts without a label in front: two are an owner and a slot, three a component of the object
--- itself; an empty part in front is a leading dot
+-- itself
 abbrev pub plain_path : List (List ℕ) → Option Path
 plain_path [] = None
 plain_path (text ∷ []) = if is_word text then None else owned Here (single_slot text)
-plain_path (a ∷ b ∷ []) = if bytes_eq a [] then owned Here (single_slot b) else named_path a (b ∷ [])
-plain_path (a ∷ b ∷ c ∷ []) = owned Here (component_slot a b c)
-plain_path (a ∷ b ∷ c ∷ d ∷ more) = if bytes_eq a [] then owned Here (slot_of (b ∷ c ∷ d ∷ more)) else named_path a (b ∷ c ∷ d ∷ more)
+plain_path (name ∷ group ∷ part ∷ []) = owned Here (component_slot name group part)
+plain_path (front ∷ rest) = fronted_path front rest
 
 -- the text up to the first `>>`, and what follows it
 abbrev pub until_closing : List ℕ → Option (List ℕ × List ℕ)
@@ -92,7 +95,17 @@ labelled_slot (front ∷ parts) = if bytes_eq front [] then slot_of parts else N
 abbrev pub labelled_path : List ℕ × List ℕ → Option Path
 labelled_path p = if is_label p.0 then owned (ByLabel p.0) (labelled_slot (parts_of p.1)) else None
 
+-- what follows `<<`
+abbrev pub opened : List ℕ → Option (List ℕ)
+opened [] = None
+opened (a ∷ []) = None
+opened (a ∷ b ∷ rest) = if (a == 60) && (b == 60) then Some rest else None
+
+-- a path with a label in front, or without
+abbrev pub path_behind : Option (List ℕ) → List ℕ → Option Path
+path_behind None text = plain_path (parts_of text)
+path_behind (Some rest) text = option_and_then labelled_path (until_closing rest)
+
 -- the path that a text spells
 unfoldable pub path_of : List ℕ → Option Path
-path_of text =
-    if starts_with (λ a b. a == b) (trimmed text) (60 ∷ 60 ∷ []) then option_and_then labelled_path (until_closing (drop 2 (trimmed text))) else plain_path (parts_of (trimmed text))
+path_of text = path_behind (opened (trimmed text)) (trimmed text)
