@@ -1,3 +1,4 @@
 pub mod CursorLemmas
 pub mod AmountLemmas
 pub mod ReadingLemmas
+pub mod LookupLemmas

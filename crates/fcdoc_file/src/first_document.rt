@@ -1,14 +1,14 @@
-ghost use Rattle.std.specs.Prelude.{◌≡◌, ℕ, List, IfOk, IsErrOf, ⊤};
-ghost use Rattle.document_model.specs.Document.{Document};
-ghost use Rattle.fcdoc_file.specs.FirstDocument.{ReadsFirst};
+ghost use Rattle.std.specs.Prelude.{◌≡◌, map, option_map};
+ghost use Rattle.std.specs.List.{find};
+ghost use Rattle.object_paths.specs.Slots.{same_text};
+ghost use Rattle.fcdoc_file.specs.FirstDocument.{first_document};
+ghost use Rattle.fcdoc_file.specs.Rows.{object_of, var_set_of_command, property_of_slot};
 ghost use Rattle.fcdoc_file.specs.Lookups.{LooksUp};
 
-use crate::fault::LoadError;
 use crate::lookup::LookupFault;
-use crate::var_set::VarSet;
-use object_paths::Path;
+use crate::var_set::{FloatProperty, VarSet};
+use object_paths::{Owner, Path, SlotName};
 use quantities::Amount;
-use std::alloc::{AllocError, Global};
 use std::marker::Model;
 
 /// A document of the first form: VarSets whose labels are their names, with Float properties that
@@ -39,17 +39,54 @@ impl FirstDocument {
     pub fn value_of(&self, path: &Path) -> Result<Amount, LookupFault>
         ensures { LooksUp self.now path.now result }
     {
-        todo
+        look_up(&self.objects, path)
     }
 }
 
-/// Reads a document of the first form; NotBuilt exactly where the bytes are the text of none.
-pub fn load(alloc: Global, bytes: &[u8]) -> Result<FirstDocument, LoadError>
-    ensures exact { Gives (λ d. d) result (document_of bytes.now) }
-    ensures found { IfOk result (ReadsFirst bytes.now) }
-    ensures not_built { IsErrOf result LoadError.NotBuilt → (d : Document) → ReadsFirst bytes.now d → ⊥ }
+/// The object of that name.
+fn object_named<'a>(objects: &'a [VarSet], name: &str) -> Option<&'a VarSet>
+    ensures { option_map (λ o. o.now) result ≡ find (λ o. same_text o.name name.now) objects.now }
 {
-    let _ = alloc;
-    let _ = bytes;
-    Err(LoadError::Memory(AllocError))
+    objects.iter().find(|object| object.name.as_str() == name)
+}
+
+/// The object that a command's path begins with; a label is an object's name.
+fn object_of_command<'a>(objects: &'a [VarSet], owner: &Owner) -> Option<&'a VarSet>
+    ensures { option_map (λ o. o.now) result ≡ var_set_of_command objects.now owner.now }
+{
+    match owner {
+        Owner::Here => None,
+        Owner::ByName(name) => object_named(objects, name.as_str()),
+        Owner::ByLabel(label) => object_named(objects, label.as_str()),
+    }
+}
+
+/// The property of that name.
+fn property_named<'a>(properties: &'a [FloatProperty], name: &str) -> Option<&'a FloatProperty>
+    ensures { option_map (λ p. p.now) result ≡ find (λ p. same_text p.name name.now) properties.now }
+{
+    properties.iter().find(|property| property.name.as_str() == name)
+}
+
+/// The property that the slot is.
+fn property_of_slot<'a>(properties: &'a [FloatProperty], slot: &SlotName) -> Option<&'a FloatProperty>
+    ensures { option_map (λ p. p.now) result ≡ property_of_slot properties.now slot.now }
+{
+    match slot {
+        SlotName::Plain(name) => property_named(properties, name.as_str()),
+        _ => None,
+    }
+}
+
+/// The number that a slot of one of the objects has as its own.
+fn look_up(objects: &[VarSet], path: &Path) -> Result<Amount, LookupFault>
+    ensures { LooksUp (first_document (map object_of objects.now)) path.now result }
+{
+    let Some(object) = object_of_command(objects, &path.owner) else {
+        return Err(LookupFault::NoObject);
+    };
+    match property_of_slot(&object.properties, &path.slot) {
+        Some(property) => Ok(property.value),
+        None => Err(LookupFault::NoProperty),
+    }
 }

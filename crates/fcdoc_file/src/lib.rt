@@ -9,5 +9,5 @@ mod reading;
 mod var_set;
 
 pub use fault::LoadError;
-pub use first_document::{FirstDocument, load};
+pub use first_document::FirstDocument;
 pub use lookup::LookupFault;
