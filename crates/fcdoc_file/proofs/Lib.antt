@@ -2,3 +2,5 @@ pub mod CursorLemmas
 pub mod AmountLemmas
 pub mod ReadingLemmas
 pub mod LookupLemmas
+pub mod FieldLaws
+pub mod ObjectLaws
