@@ -1,3 +1,6 @@
 pub mod CursorLemmas
 pub mod AmountLemmas
 pub mod ReadingLemmas
+pub mod LookupLemmas
+pub mod FieldLaws
+pub mod ObjectLaws
