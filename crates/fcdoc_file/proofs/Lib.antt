@@ -4,3 +4,4 @@ pub mod ReadingLemmas
 pub mod LookupLemmas
 pub mod FieldLaws
 pub mod ObjectLaws
+pub mod DocumentLaws
