@@ -7,6 +7,8 @@ mod first_document;
 mod lookup;
 mod reading;
 mod standing;
+#[cfg(test)]
+mod tests;
 mod var_set;
 
 pub use fault::LoadError;
