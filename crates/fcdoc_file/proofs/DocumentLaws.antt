@@ -1,5 +1,5 @@
 -- The document that is found is the one whose text the bytes are, and that document is found.
-use Rattle.std.proofs.Common.{◌≡◌, ◌⊎◌, inl, inr, ℕ, zero, suc, ◌+◌, ◌<◌, ◌≤◌, ◌^◌, Bool, true, false, cond, ◌&&◌, ◌||◌, eqb, leb, List, [], ◌∷◌, ◌++◌, length, map, codes, Option, None, Some, refl, sym, ap, ◌∙◌, subst, append_assoc, arith}
+use Rattle.std.proofs.Common.{◌≡◌, ◌⊎◌, inl, inr, ℕ, zero, suc, ◌+◌, ◌<◌, ◌≤◌, ◌^◌, Bool, true, false, cond, ◌&&◌, ◌||◌, eqb, leb, List, [], ◌∷◌, ◌++◌, length, map, codes, Option, None, Some, Result, Err, refl, sym, ap, ◌∙◌, subst, append_assoc, arith}
 use Rattle.std.specs.Prelude.{sum_by}
 use Rattle.std.specs.Fmt.{decimal}
 use Rattle.std.specs.List.{flat_map, list_all, AllByRecursion}
@@ -13,6 +13,9 @@ use Rattle.std.proofs.lemmas.Slice.Eq.{bytes_eq-Decides}
 use Rattle.fc_base.specs.Texts.{is_name}
 use Rattle.property_types.specs.Reserved.{are_distinct}
 use Rattle.document_model.specs.Document.{Document}
+use Rattle.fcdoc_file.specs.declared.fault.LoadError.{LoadError}
+use Rattle.fcdoc_file.specs.declared.fault.LoadError.TheVariants.{NotBuilt, Memory}
+use Rattle.fcdoc_file.proofs.ReadingLemmas.{Fails}
 use Rattle.fcdoc_file.specs.Cursor.{◌>>=◌, after, quoted, numeral, each, numbers}
 use Rattle.fcdoc_file.specs.FirstForm.{FirstObject, names_text, object_text, content_text, document_start, first_text, empty_text, has_own_names, is_within_limits, stands_together, IsFirstObject, IsFirstForm}
 use Rattle.fcdoc_file.specs.FirstDocument.{first_document, ReadsFirst}
@@ -68,8 +71,8 @@ declared_at_some number text x e =
     let rest = then_some (after row_end numbered.0) _ x numbered.2 in
     let named = name_at_some declared_mark text name.0 name.1 in
     let stands : text ≡ declared_text name.0.0 number rest.0 =
-        named.0 ∙ ap (λ t. declared_mark ++ (name.0.0 ++ 34 ∷ t)) (known_at_some id_mark (decimal number) name.0.1 numbered.0 numbered.1
-        ∙ ap (λ t. id_mark ++ (decimal number ++ 34 ∷ t)) (after_some row_end numbered.0 rest.0 rest.1)) in
+    named.0 ∙ ap (λ t. declared_mark ++ (name.0.0 ++ 34 ∷ t)) (known_at_some id_mark (decimal number) name.0.1 numbered.0 numbered.1
+    ∙ ap (λ t. id_mark ++ (decimal number ++ 34 ∷ t)) (after_some row_end numbered.0 rest.0 rest.1)) in
     subst (λ (y : List ℕ × List ℕ). (text ≡ declared_text y.0 number y.1) × (is_name y.0 ≡ true)) (some_is (name.0.0, rest.0) x rest.2) (stands, named.1)
 
 regroup_row : (a n b d c ns rest : List ℕ) → (a ++ (n ++ 34 ∷ (b ++ (d ++ 34 ∷ (c ++ ns))))) ++ rest ≡ a ++ (n ++ 34 ∷ (b ++ (d ++ 34 ∷ (c ++ (ns ++ rest)))))
@@ -103,7 +106,7 @@ list_some first (suc n) text x e =
     let front = declared_at_some first text name.0 name.1 in
     let tail = list_some (first + 1) n name.0.1 more.0 more.1 in
     let stands : text ≡ names_text first (name.0.0 ∷ more.0.0) ++ more.0.1 =
-        front.0 ∙ ap (declared_text name.0.0 first) tail.stands ∙ sym (names_grouped name.0.0 first more.0.0 more.0.1) in
+    front.0 ∙ ap (declared_text name.0.0 first) tail.stands ∙ sym (names_grouped name.0.0 first more.0.0 more.0.1) in
     subst (HasList first (suc n) text) (some_is (name.0.0 ∷ more.0.0, more.0.1) x more.2) (record { stands = stands; count = ap suc tail.count; all = (front.1, tail.all) })
 
 -- ---- what stands before the data
@@ -142,11 +145,11 @@ names_at_some text x e =
     let number = count_at_some start_mark text count.0 count.1 in
     let has = list_some 1 count.0.0 opened.0 names.0 names.1 in
     let behind : names.0.1 ≡ data_mark ++ (decimal count.0.0 ++ 34 ∷ (opened_line ++ rest.0)) =
-        known_at_some data_mark (decimal count.0.0) names.0.1 counted.0 counted.1
-        ∙ ap (λ t. data_mark ++ (decimal count.0.0 ++ 34 ∷ t)) (after_some opened_line counted.0 rest.0 rest.1) in
+    known_at_some data_mark (decimal count.0.0) names.0.1 counted.0 counted.1
+    ∙ ap (λ t. data_mark ++ (decimal count.0.0 ++ 34 ∷ t)) (after_some opened_line counted.0 rest.0 rest.1) in
     let stands : text ≡ head_text count.0.0 names.0.0 rest.0 =
-        number.0 ∙ ap (λ t. start_mark ++ (decimal count.0.0 ++ 34 ∷ t)) (after_some opened_line count.0.1 opened.0 opened.1
-        ∙ ap (λ t. opened_line ++ t) (has.stands ∙ ap (λ t. names_text 1 names.0.0 ++ t) behind)) in
+    number.0 ∙ ap (λ t. start_mark ++ (decimal count.0.0 ++ 34 ∷ t)) (after_some opened_line count.0.1 opened.0 opened.1
+    ∙ ap (λ t. opened_line ++ t) (has.stands ∙ ap (λ t. names_text 1 names.0.0 ++ t) behind)) in
     let some : 0 < length names.0.0 = subst (λ (k : ℕ). 0 < k) (sym has.count) number.1 in
     subst (HasNames text) (some_is (names.0.0, rest.0) x rest.2)
     (record { stands = stands ∙ ap (λ (k : ℕ). head_text k names.0.0 rest.0) (sym has.count); some = some; all = has.all })
@@ -187,10 +190,10 @@ content_at_some text os e =
     let has = objects_some names.0.0 names.0.1 objects.0 named.all objects.1 in
     let same : length names.0.0 ≡ length objects.0.0 = ap length (sym has.named) ∙ length-map objects.0.0 name_of in
     let listed : names.0.1 ≡ flat_map object_text objects.0.0 ++ content_end =
-        has.stands ∙ ap (λ t. flat_map object_text objects.0.0 ++ t) (after_some content_end objects.0.1 rest.0 rest.1 ∙ ap (λ t. content_end ++ t) over.0) in
+    has.stands ∙ ap (λ t. flat_map object_text objects.0.0 ++ t) (after_some content_end objects.0.1 rest.0 rest.1 ∙ ap (λ t. content_end ++ t) over.0) in
     let stands : text ≡ document_start ++ content_text objects.0.0 =
-        named.stands ∙ ap (λ (k : ℕ). head_text k names.0.0 names.0.1) same ∙ ap (λ (ns : List (List ℕ)). head_text (length objects.0.0) ns names.0.1) (sym has.named)
-        ∙ ap (head_text (length objects.0.0) (map name_of objects.0.0)) listed in
+    named.stands ∙ ap (λ (k : ℕ). head_text k names.0.0 names.0.1) same ∙ ap (λ (ns : List (List ℕ)). head_text (length objects.0.0) ns names.0.1) (sym has.named)
+    ∙ ap (head_text (length objects.0.0) (map name_of objects.0.0)) listed in
     subst (HasContent text) over.1 (record { stands = stands; some = subst (λ (k : ℕ). 0 < k) same named.some; all = has.all })
 
 -- ---- documents of the first form
@@ -203,7 +206,7 @@ counted_within (o ∷ os) few =
     (omega (arith, split), counted_within os (omega (arith, split)))
 
 -- what standing together says of the counts
-together_counted : (os : List FirstObject) → stands_together os ≡ true → AllByRecursion IsCounted os × (length os < 2 ^ 32)
+pub together_counted : (os : List FirstObject) → stands_together os ≡ true → AllByRecursion IsCounted os × (length os < 2 ^ 32)
 together_counted os together =
     let within = (both_tests (are_distinct (map name_of os) && list_all has_own_names os) (is_within_limits os) together).1 in
     let limits = both_tests (leb (length os) 4096) (leb (sum_by (λ o. length o.properties) os) 65536) within in
@@ -303,3 +306,11 @@ document_of-text bytes d reads = ap (option_map first_document) (first_form_of-t
 -- bytes are the text of one document at most
 pub reads_one : (bytes : List ℕ) (d e : Document) → ReadsFirst bytes d → ReadsFirst bytes e → d ≡ e
 reads_one bytes d e first second = some_is d e (sym (document_of-text bytes d first) ∙ document_of-text bytes e second)
+
+-- where nothing was read the bytes are the text of no document
+pub refused : {A : Type 0} (bytes : List ℕ) (e : LoadError) → Fails e (first_form_of bytes) → ◌≡◌ {A = Result A LoadError} (Err e) (Err NotBuilt) → (d : Document) → ReadsFirst bytes d → ⊥
+refused bytes NotBuilt fails same d reads =
+    let there = document_of-text bytes d reads in
+    let nothing : document_of bytes ≡ None = ap (option_map first_document) fails in
+    absurd (cc)
+refused bytes (Memory m) fails same d reads = absurd (cc)

@@ -5,3 +5,6 @@ pub mod LookupLemmas
 pub mod FieldLaws
 pub mod ObjectLaws
 pub mod DocumentLaws
+pub mod DistinctLemmas
+pub mod StandingLemmas
+pub mod Utf8Laws

@@ -71,8 +71,8 @@ property_at_some text x e =
     let named = name_at_some property_mark text name.0 name.1 in
     let amount = amount_of_some number.0.0 value.0 value.1 in
     let stands : text ≡ property_text p ++ rest.0 =
-        join_property property_mark name.0.0 float_mark (nine_text value.0) property_end rest.0 text name.0.1 number.0.0 number.0.1
-        named.0 (quoted_at_some float_mark name.0.1 number.0 number.1) amount.0 (after_some property_end number.0.1 rest.0 rest.1) in
+    join_property property_mark name.0.0 float_mark (nine_text value.0) property_end rest.0 text name.0.1 number.0.0 number.0.1
+    named.0 (quoted_at_some float_mark name.0.1 number.0 number.1) amount.0 (after_some property_end number.0.1 rest.0 rest.1) in
     subst (λ (y : FirstProperty × List ℕ). (text ≡ property_text y.0 ++ y.1) × IsFirstProperty y.0) (some_is (p, rest.0) x rest.2) (stands, (named.1, amount.1))
 
 -- ---- the properties of an object
@@ -101,8 +101,8 @@ properties_some first (suc n) text x e =
     let front = property_at_some text p.0 p.1 in
     let tail = properties_some (first + 1) n p.0.1 more.0 more.1 in
     let stands : text ≡ flat_map property_text (p.0.0 ∷ more.0.0) ++ more.0.1 =
-        front.0 ∙ ap (λ t. property_text p.0.0 ++ t) tail.stands ∙ sym (append_assoc (property_text p.0.0) (flat_map property_text more.0.0) more.0.1)
-        ∙ ap (λ t. t ++ more.0.1) (sym (flat_map-cons property_text p.0.0 more.0.0)) in
+    front.0 ∙ ap (λ t. property_text p.0.0 ++ t) tail.stands ∙ sym (append_assoc (property_text p.0.0) (flat_map property_text more.0.0) more.0.1)
+    ∙ ap (λ t. t ++ more.0.1) (sym (flat_map-cons property_text p.0.0 more.0.0)) in
     subst (HasProperties (suc n) text) (some_is (p.0.0 ∷ more.0.0, more.0.1) x more.2) (record { stands = stands; count = ap suc tail.count; all = (front.1, tail.all) })
 
 -- ---- an object
@@ -148,9 +148,9 @@ start_at_some name text x e =
     let least : 2 ≤ count.0.0 = ltb-false count.0.0 2 tested.0 in
     let back : count.0.0 ≡ count.0.0 - 2 + 2 = omega arith in
     let stands : text ≡ start_text name count.0.0 opened.0 =
-        known_at_some object_mark name text named.0 named.1
-        ∙ ap (λ t. object_mark ++ (name ++ 34 ∷ t)) ((count_at_some properties_mark named.0 count.0 count.1).0
-        ∙ ap (λ t. properties_mark ++ (decimal count.0.0 ++ 34 ∷ t)) (fixed_at_some name count.0.1 opened.0 opened.1)) in
+    known_at_some object_mark name text named.0 named.1
+    ∙ ap (λ t. object_mark ++ (name ++ 34 ∷ t)) ((count_at_some properties_mark named.0 count.0 count.1).0
+    ∙ ap (λ t. properties_mark ++ (decimal count.0.0 ++ 34 ∷ t)) (fixed_at_some name count.0.1 opened.0 opened.1)) in
     subst (λ (y : ℕ × List ℕ). text ≡ start_text name (y.0 + 2) y.1) tested.1 (stands ∙ ap (λ k. start_text name k opened.0) back)
 
 regroup_object : (a n b d c e ps f rest : List ℕ) → (a ++ (n ++ 34 ∷ (b ++ (d ++ 34 ∷ ((c ++ (n ++ 34 ∷ e)) ++ (ps ++ f)))))) ++ rest
@@ -192,10 +192,10 @@ object_at_some name text x e =
     let o : FirstObject = record { name = name; properties = properties.0.0 } in
     let has = properties_some 1 start.0.0 start.0.1 properties.0 properties.1 in
     let stands : text ≡ object_text o ++ rest.0 =
-        start_at_some name text start.0 start.1
-        ∙ ap (λ (k : ℕ). start_text name (k + 2) start.0.1) (sym has.count)
-        ∙ ap (start_text name (length properties.0.0 + 2)) (has.stands ∙ ap (λ t. flat_map property_text properties.0.0 ++ t) (after_some object_end properties.0.1 rest.0 rest.1))
-        ∙ sym (object_grouped o rest.0) in
+    start_at_some name text start.0 start.1
+    ∙ ap (λ (k : ℕ). start_text name (k + 2) start.0.1) (sym has.count)
+    ∙ ap (start_text name (length properties.0.0 + 2)) (has.stands ∙ ap (λ t. flat_map property_text properties.0.0 ++ t) (after_some object_end properties.0.1 rest.0 rest.1))
+    ∙ sym (object_grouped o rest.0) in
     subst (HasObject name text) (some_is (o, rest.0) x rest.2) (record { stands = stands; named = refl; all = has.all })
 
 -- ---- the objects
@@ -229,8 +229,8 @@ objects_some (name ∷ names) text x are e =
     let front = object_at_some name text o.0 o.1 in
     let tail = objects_some names o.0.1 more.0 are.1 more.1 in
     let stands : text ≡ flat_map object_text (o.0.0 ∷ more.0.0) ++ more.0.1 =
-        front.stands ∙ ap (λ t. object_text o.0.0 ++ t) tail.stands ∙ sym (append_assoc (object_text o.0.0) (flat_map object_text more.0.0) more.0.1)
-        ∙ ap (λ t. t ++ more.0.1) (sym (flat_map-cons object_text o.0.0 more.0.0)) in
+    front.stands ∙ ap (λ t. object_text o.0.0 ++ t) tail.stands ∙ sym (append_assoc (object_text o.0.0) (flat_map object_text more.0.0) more.0.1)
+    ∙ ap (λ t. t ++ more.0.1) (sym (flat_map-cons object_text o.0.0 more.0.0)) in
     let name_is : is_name o.0.0.name ≡ true = ap is_name front.named ∙ are.0 in
     let named : o.0.0.name ∷ map name_of more.0.0 ≡ name ∷ names = ap (λ n. n ∷ map name_of more.0.0) front.named ∙ ap (λ ns. name ∷ ns) tail.named in
     subst (HasObjects (name ∷ names) text) (some_is (o.0.0 ∷ more.0.0, more.0.1) x more.2) (record { stands = stands; named = named; all = ((name_is, front.all), tail.all) })

@@ -93,4 +93,3 @@ IsFirstObject o = IsTrue (is_name o.name) × AllByRecursion IsFirstProperty o.pr
 pub record IsFirstForm (objects : List FirstObject) : Type 0 where
   pub each : AllByRecursion IsFirstObject objects
   pub together : IsTrue (stands_together objects)
-
