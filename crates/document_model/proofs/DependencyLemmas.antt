@@ -1,21 +1,21 @@
 -- Each dependency is found by a look-up in the rows of an object of the document, so it is a slot.
-use Rattle.std.proofs.Common.{◌≡◌, ◌⊎◌, inl, inr, ℕ, Bool, true, false, List, [], ◌∷◌, ◌++◌, map, Some, None, refl, sym, subst, codes}
+use Rattle.std.proofs.Common.{◌≡◌, inl, inr, ℕ, List, [], ◌∷◌, ◌++◌, map, Some, None, refl, sym, subst, codes}
 use Rattle.std.specs.Prelude.{Option, unwrap_or}
 use Rattle.std.specs.List.{filter, filter_map, flat_map}
-use Rattle.std.specs.Option.{option_map, option_and_then, option_or, option_map_or, option_to_list}
+use Rattle.std.specs.Option.{option_and_then, option_map_or, option_to_list}
 use Rattle.fc_base.specs.Graph.{IsIn, Closed}
-use Rattle.fc_base.specs.Places.{Place, Block, address_of, unmarked}
+use Rattle.fc_base.specs.Places.{Place, address_of, unmarked}
 use Rattle.object_paths.specs.declared.slot_name.SlotName.{SlotName}
 use Rattle.object_paths.specs.declared.slot_name.SlotName.TheVariants.{Plain, Component, Marked}
 use Rattle.object_paths.specs.declared.path.Owner.{Owner}
 use Rattle.object_paths.specs.declared.path.Owner.TheVariants.{Here, ByName, ByLabel}
 use Rattle.object_paths.specs.declared.path.Path.{Path}
-use Rattle.object_paths.specs.Slots.{Slot, same_text}
+use Rattle.object_paths.specs.Slots.{Slot}
 use Rattle.expr_grammar.specs.Tree.{Tree}
 use Rattle.expr_grammar.specs.References.{Reference, to_path, to_area, references}
 use Rattle.document_model.specs.declared.kind.ObjectKind.{ObjectKind}
 use Rattle.document_model.specs.declared.kind.ObjectKind.TheVariants.{VarSet, Sheet, Link, Feature, Foreign}
-use Rattle.document_model.specs.Document.{Document, Object, object_named, object_labelled}
+use Rattle.document_model.specs.Document.{Document, Object, object_named}
 use Rattle.document_model.specs.Slots.{Row, Rule, own, bound, inherit, global, output, rows, row_in, slot_of, slots, rule_of}
 use Rattle.document_model.specs.Resolution.{owner_of, slot_in, cell_slot, aliased_place, named_slot, plain_slot, sheet_slot, spelled_slot, resolve}
 use Rattle.document_model.specs.Dependencies.{existing, slot_reached, is_cell_within, cells_reached, slots_of_tree, placement_of, link_slots_read, inputs_of, deps_by, deps}
@@ -26,7 +26,7 @@ module _ (d : Document) where
   of_row : (o : Object) (r : Row) → IsIn o d.objects → IsIn r (rows d o) → IsIn (slot_of o r.name) (slots d)
   of_row o r here i =
       IsIn-flat_map (λ q. map (λ (k : Row). slot_of q k.name) (rows d q)) d.objects o (slot_of o r.name) here
-        (IsIn-map (λ (k : Row). slot_of o k.name) (rows d o) r i)
+      (IsIn-map (λ (k : Row). slot_of o k.name) (rows d o) r i)
 
   of_slot_in : (o : Object) (name : SlotName) (s : Slot) → IsIn o d.objects → slot_in d o name ≡ Some s → IsIn s (slots d)
   of_slot_in o name s here h =

@@ -81,7 +81,7 @@ module _ {A B : Type 0} where
       elim (f x) as (λ o. f x ≡ o → IsIn y (cons_option o (filter_map f xs)) → (z : A) × IsIn z (x ∷ xs) × (f z ≡ Some y)) [
         | None ↦ λ e j. let r = from_filter_map f xs y j in (r.0, inr r.1, r.2)
         | Some v ↦ λ e. elim [
-            | inl g ↦ (x, inl refl, cc)
-            | inr j ↦ let r = from_filter_map f xs y j in (r.0, inr r.1, r.2)
-          ]
+          | inl g ↦ (x, inl refl, cc)
+          | inr j ↦ let r = from_filter_map f xs y j in (r.0, inr r.1, r.2)
+        ]
       ] refl i

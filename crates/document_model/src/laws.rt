@@ -19,5 +19,4 @@ pub fn linked_box_works()
 /// What depends on others depends on slots of the document alone, in every document.
 pub fn dependencies_are_slots()
     ensures { (d : Document) → Closed (deps d) (slots d) }
-{
-}
+{}
