@@ -48,7 +48,7 @@ one_letter a upper =
     record {
       low = omega arith;
       high = omega arith;
-      text = rw (le-leb (0 * 26 + (a - 64)) 26 small) (ap (λ x. x ∷ []) letter)
+      text = rw (le-leb (0 * 26 + (a - 64)) 26 small) (ap (λ x. x ∷ []) letter);
     }
 
 two_letters : (a b : ℕ) → is_ascii_uppercase a ≡ true → is_ascii_uppercase b ≡ true → IsColumn (column_of (a ∷ b ∷ [])) (a ∷ b ∷ [])
@@ -61,7 +61,7 @@ two_letters a b upper_a upper_b =
     record {
       low = omega arith;
       high = omega arith;
-      text = rw (lt-leb ((0 * 26 + (a - 64)) * 26 + (b - 64)) 26 large) (λ i. first i ∷ second i ∷ [])
+      text = rw (lt-leb ((0 * 26 + (a - 64)) * 26 + (b - 64)) 26 large) (λ i. first i ∷ second i ∷ []);
     }
 
 pub letters-column : (text : List ℕ) → 0 < letter_count text → IsColumn (column_of (take (letter_count text) text)) (take (letter_count text) text)
@@ -71,10 +71,11 @@ letters-column (a ∷ []) some =
     [ true ↦ λ e _. one_letter a e | false ↦ λ _ s. absurd (omega (arith, s)) ] refl some
 letters-column (a ∷ b ∷ rest) some =
     elim (is_ascii_uppercase a) as (λ u. is_ascii_uppercase a ≡ u → 0 < cond u (cond (is_ascii_uppercase b) 2 1) 0
-        → IsColumn (column_of (take (cond u (cond (is_ascii_uppercase b) 2 1) 0) (a ∷ b ∷ rest))) (take (cond u (cond (is_ascii_uppercase b) 2 1) 0) (a ∷ b ∷ rest)))
-    [ true ↦ λ e _. elim (is_ascii_uppercase b) as (λ v. is_ascii_uppercase b ≡ v → IsColumn (column_of (take (cond v 2 1) (a ∷ b ∷ rest))) (take (cond v 2 1) (a ∷ b ∷ rest)))
-        [ true ↦ λ f. two_letters a b e f | false ↦ λ _. one_letter a e ] refl
-    | false ↦ λ _ s. absurd (omega (arith, s)) ] refl some
+    → IsColumn (column_of (take (cond u (cond (is_ascii_uppercase b) 2 1) 0) (a ∷ b ∷ rest))) (take (cond u (cond (is_ascii_uppercase b) 2 1) 0) (a ∷ b ∷ rest))) [
+      | true ↦ λ e _. elim (is_ascii_uppercase b) as (λ v. is_ascii_uppercase b ≡ v → IsColumn (column_of (take (cond v 2 1) (a ∷ b ∷ rest))) (take (cond v 2 1) (a ∷ b ∷ rest)))
+          [ true ↦ λ f. two_letters a b e f | false ↦ λ _. one_letter a e ] refl
+      | false ↦ λ _ s. absurd (omega (arith, s))
+    ] refl some
 
 -- the row that digits spell, and the digits
 pub record IsRow (row : ℕ) (digits : List ℕ) : Type 0 where
@@ -98,7 +99,7 @@ row_text digits h =
       nonempty = ltb-true _ _ inner.0;
       leading = λ e. both_ways _ (not-true _ inner.1) (eq-eqb _ _ e);
       all_digits = middle.1;
-      small = leb-true _ _ outer.1
+      small = leb-true _ _ outer.1;
     }
 
 IsRow-value : (digits : List ℕ) → IsRowText digits → IsRow (digits_value 10 digits) digits
@@ -106,17 +107,18 @@ IsRow-value digits t =
     let text : decimal (digits_value 10 digits) ≡ digits = decimal-digits_value own digits t.all_digits t.nonempty (λ e. absurd (t.leading e)) (omega (arith, t.small)) in
     record {
       low = ⊎_elim
-        (λ zero. absurd (t.leading (ap (λ ds. get_or ds 0 0) (sym text ∙ ap decimal zero ∙ decimal_digit 0 (omega arith)))))
-        (λ some. omega (arith, some)) (cases_eq (digits_value 10 digits) 0);
+          (λ zero. absurd (t.leading (ap (λ ds. get_or ds 0 0) (sym text ∙ ap decimal zero ∙ decimal_digit 0 (omega arith)))))
+          (λ some. omega (arith, some)) (cases_eq (digits_value 10 digits) 0);
       high = t.small;
-      text = text
+      text = text;
     }
 
 pub row_of-IsRow : (digits : List ℕ) (row : ℕ) → row_of digits ≡ Some row → IsRow row digits
 row_of-IsRow digits row h =
-    elim (spells_row digits) as (λ b. spells_row digits ≡ b → cond b (Some (digits_value 10 digits)) None ≡ Some row → IsRow row digits)
-    [ true ↦ λ e found. let same : digits_value 10 digits ≡ row = cc in subst (λ (r : ℕ). IsRow r digits) same (IsRow-value digits (row_text digits e))
-    | false ↦ λ _ found. absurd (cc) ] refl h
+    elim (spells_row digits) as (λ b. spells_row digits ≡ b → cond b (Some (digits_value 10 digits)) None ≡ Some row → IsRow row digits) [
+      | true ↦ λ e found. let same : digits_value 10 digits ≡ row = cc in subst (λ (r : ℕ). IsRow r digits) same (IsRow-value digits (row_text digits e))
+      | false ↦ λ _ found. absurd (cc)
+    ] refl h
 
 -- ---- a spelling is read as its place
 
@@ -131,9 +133,9 @@ column_text-by : (P : List ℕ → Type 0) (column : ℕ) → 1 ≤ column → c
 column_text-by P column low high one two =
     cond_both (nat_le column 26) ((column + 64) ∷ []) (((column - 1) / 26 + 64) ∷ ((column - 1) % 26 + 65) ∷ []) P
     (λ e. let small : column ≤ 26 = leb-true column 26 e in
-        one (column + 64) (is_upper (column + 64) (omega arith) (omega arith)) (omega arith))
+    one (column + 64) (is_upper (column + 64) (omega arith) (omega arith)) (omega arith))
     (λ e. let large : 26 < column = leb-false column 26 e in
-        two ((column - 1) / 26 + 64) ((column - 1) % 26 + 65) (is_upper ((column - 1) / 26 + 64) (omega arith) (omega arith)) (is_upper ((column - 1) % 26 + 65) (omega arith) (omega arith)) (omega arith))
+    two ((column - 1) / 26 + 64) ((column - 1) % 26 + 65) (is_upper ((column - 1) / 26 + 64) (omega arith) (omega arith)) (is_upper ((column - 1) % 26 + 65) (omega arith) (omega arith)) (omega arith))
 
 upper_not : (c d : ℕ) → is_ascii_uppercase c ≡ true → d < 65 → (c == d) ≡ false
 upper_not c d upper low =
@@ -190,8 +192,8 @@ decimal-spells_row row low high =
     let nonempty : 0 < length (decimal row) = decimal_nonempty row (omega arith) in
     and_from (nat_lt 0 (length (decimal row)) && not (slice_index (decimal row) 0 == 48) && all_ascii_digits (decimal row)) _
     (and_from (nat_lt 0 (length (decimal row)) && not (slice_index (decimal row) 0 == 48)) _
-        (and_from (nat_lt 0 (length (decimal row))) _ (lt-ltb _ _ nonempty) (not_from_false _ (ne_eqb _ _ (λ e. omega arith))))
-        (decimal-digits row high))
+    (and_from (nat_lt 0 (length (decimal row))) _ (lt-ltb _ _ nonempty) (not_from_false _ (ne_eqb _ _ (λ e. omega arith))))
+    (decimal-digits row high))
     (le-leb _ _ value)
 
 row_of-decimal : (row : ℕ) → 1 ≤ row → row ≤ 16384 → row_of (decimal row) ≡ Some row
@@ -250,11 +252,11 @@ spelled-after_mark : (p : Place) → IsPlace p → place_after p.fixed_column (b
 spelled-after_mark p place =
     let digits = decimal-digits p.row place.row_high in
     let count : letter_count (behind_mark p) ≡ length (column_text p.column) =
-        letter_count-column p.column place.column_low place.column_high _ (mark-no_letter p.fixed_row (decimal p.row) digits) in
+    letter_count-column p.column place.column_low place.column_high _ (mark-no_letter p.fixed_row (decimal p.row) digits) in
     let front : take (letter_count (behind_mark p)) (behind_mark p) ≡ column_text p.column =
-        take_at (column_text p.column) _ _ (sym count) in
+    take_at (column_text p.column) _ _ (sym count) in
     let back : drop (letter_count (behind_mark p)) (behind_mark p) ≡ mark_text p.fixed_row ++ decimal p.row =
-        drop_at (column_text p.column) _ _ (sym count) in
+    drop_at (column_text p.column) _ _ (sym count) in
     let unmarked_digits : is_marked (decimal p.row) ≡ false = (digits-first (decimal p.row) digits).1 in
     let after : after_mark (mark_text p.fixed_row ++ decimal p.row) ≡ decimal p.row = after_mark-mark p.fixed_row (decimal p.row) unmarked_digits in
     place_after-found p.fixed_column (behind_mark p) (mark_text p.fixed_row ++ decimal p.row) p.column p.row
@@ -288,7 +290,7 @@ Spells-parts : (text rest : List ℕ) (column row : ℕ) → IsColumn column (ta
     → IsRow row (after_mark rest) → Spells text (place_of column row (is_marked text) (is_marked rest))
 Spells-parts text rest column row at_column at_rest at_row = record {
   place = record { column_low = at_column.low; column_high = at_column.high; row_low = at_row.low; row_high = at_row.high };
-  spelling = spelled-parts text rest column row at_column at_rest at_row
+  spelling = spelled-parts text rest column row at_column at_rest at_row;
 }
 
 is_place-IsPlace : (p : Place) → is_place p ≡ true → IsPlace p
@@ -302,7 +304,7 @@ is_place-from : (p : Place) → IsPlace p → is_place p ≡ true
 is_place-from p place =
     and_from (nat_le 1 p.column && nat_le p.column 702 && nat_le 1 p.row) _
     (and_from (nat_le 1 p.column && nat_le p.column 702) _
-        (and_from (nat_le 1 p.column) _ (le-leb _ _ place.column_low) (le-leb _ _ place.column_high)) (le-leb _ _ place.row_low))
+    (and_from (nat_le 1 p.column) _ (le-leb _ _ place.column_low) (le-leb _ _ place.column_high)) (le-leb _ _ place.row_low))
     (le-leb _ _ place.row_high)
 
 Spells-test : (text : List ℕ) (p : Place) → (is_place p && bytes_eq (address_text p) text) ≡ true → Spells text p
@@ -314,9 +316,10 @@ Spells-test text p h =
 address_of-Spells : (text : List ℕ) (p : Place) → address_of text ≡ Some p → Spells text p
 unfolding address_of
 address_of-Spells text p h =
-    elim (is_place (named_place text) && bytes_eq (address_text (named_place text)) text) as (λ b. (is_place (named_place text) && bytes_eq (address_text (named_place text)) text) ≡ b → cond b (Some (named_place text)) None ≡ Some p → Spells text p)
-    [ true ↦ λ e found. let same : named_place text ≡ p = cc in subst (λ (q : Place). Spells text q) same (Spells-test text (named_place text) e)
-    | false ↦ λ _ found. absurd (cc) ] refl h
+    elim (is_place (named_place text) && bytes_eq (address_text (named_place text)) text) as (λ b. (is_place (named_place text) && bytes_eq (address_text (named_place text)) text) ≡ b → cond b (Some (named_place text)) None ≡ Some p → Spells text p) [
+      | true ↦ λ e found. let same : named_place text ≡ p = cc in subst (λ (q : Place). Spells text q) same (Spells-test text (named_place text) e)
+      | false ↦ λ _ found. absurd (cc)
+    ] refl h
 
 -- ---- the letters, digits and marks of a spelling name its place
 
@@ -356,6 +359,7 @@ upper-spelled p place =
     marks : (b : Bool) → filter is_ascii_uppercase (mark_text b) ≡ []
     marks true = refl
     marks false = refl
+
     column : filter is_ascii_uppercase (column_text p.column) ≡ column_text p.column
     column = column_text-by (λ letters. filter is_ascii_uppercase letters ≡ letters) p.column place.column_low place.column_high (λ a u _. rw u) (λ a b u v _. rw (u, v))
 
@@ -371,6 +375,7 @@ digits-spelled p place =
     marks : (b : Bool) → filter is_ascii_digit (mark_text b) ≡ []
     marks true = refl
     marks false = refl
+
     column : filter is_ascii_digit (column_text p.column) ≡ []
     column = column_text-by (λ letters. filter is_ascii_digit letters ≡ []) p.column place.column_low place.column_high (λ a u _. rw (upper_not_digit a u)) (λ a b u v _. rw (upper_not_digit a u, upper_not_digit b v))
 
@@ -385,14 +390,17 @@ row_mark-spelled p place = at_mark p.fixed_column
   where
     rest : List ℕ
     rest = mark_text p.fixed_row ++ decimal p.row
+
     inner : list_any (λ c. c == 36) (drop 1 (column_text p.column ++ (mark_text p.fixed_row ++ decimal p.row))) ≡ p.fixed_row
     inner = column_text-by (λ letters. list_any (λ c. c == 36) (drop 1 (letters ++ (mark_text p.fixed_row ++ decimal p.row))) ≡ p.fixed_row) p.column place.column_low place.column_high
         (λ a u _. row_mark p.fixed_row p.row place.row_high)
         (λ a b u v _. rw (upper_not b 36 v (omega arith)) (row_mark p.fixed_row p.row place.row_high))
+
     outer : list_any (λ c. c == 36) (column_text p.column ++ (mark_text p.fixed_row ++ decimal p.row)) ≡ p.fixed_row
     outer = column_text-by (λ letters. list_any (λ c. c == 36) (letters ++ (mark_text p.fixed_row ++ decimal p.row)) ≡ p.fixed_row) p.column place.column_low place.column_high
         (λ a u _. rw (upper_not a 36 u (omega arith)) (row_mark p.fixed_row p.row place.row_high))
         (λ a b u v _. rw (upper_not a 36 u (omega arith), upper_not b 36 v (omega arith)) (row_mark p.fixed_row p.row place.row_high))
+
     at_mark : (b : Bool) → list_any (λ c. c == 36) (drop 1 (mark_text b ++ (column_text p.column ++ (mark_text p.fixed_row ++ decimal p.row)))) ≡ p.fixed_row
     at_mark true = outer
     at_mark false = inner
@@ -407,7 +415,7 @@ named_place-spelled p place = λ i. record {
   column = (ap column_of (upper-spelled p place) ∙ column_of-column_text p.column place.column_low place.column_high) i;
   row = (ap (digits_value 10) (digits-spelled p place) ∙ decimal-value p.row place.row_high) i;
   fixed_column = column_mark-spelled p place i;
-  fixed_row = row_mark-spelled p place i
+  fixed_row = row_mark-spelled p place i;
 }
 
 -- a written address reads as itself
@@ -416,7 +424,7 @@ unfolding address_of
 address_of-address_text p place =
     let named : named_place (address_text p) ≡ p = named_place-spelled p place in
     let passes : (is_place p && bytes_eq (address_text p) (address_text p)) ≡ true =
-        and_from (is_place p) _ (is_place-from p place) ((bytes_eq-Decides (address_text p) (address_text p)).1 refl) in
+    and_from (is_place p) _ (is_place-from p place) ((bytes_eq-Decides (address_text p) (address_text p)).1 refl) in
     (λ i. cond (is_place (named i) && bytes_eq (address_text (named i)) (address_text p)) (Some (named i)) None)
     ∙ cond-true _ _ _ passes
 
@@ -429,12 +437,13 @@ address_of-iff text p =
 
 no_address : (text : List ℕ) → read_place text ≡ None → address_of text ≡ None
 no_address text none =
-    elim (address_of text) as (λ o. address_of text ≡ o → o ≡ None)
-    [ None ↦ λ _. refl
-    | Some p ↦ λ e.
-        let s : Spells text p = address_of-Spells text p e in
-        let again : read_place text ≡ Some p = ap read_place (sym s.spelling) ∙ read_place-spelled p s.place in
-        absurd (cc) ] refl
+    elim (address_of text) as (λ o. address_of text ≡ o → o ≡ None) [
+      | None ↦ λ _. refl
+      | Some p ↦ λ e.
+          let s : Spells text p = address_of-Spells text p e in
+          let again : read_place text ≡ Some p = ap read_place (sym s.spelling) ∙ read_place-spelled p s.place in
+          absurd (cc)
+    ] refl
 
 pub no_column : (text place : List ℕ) → place ≡ after_mark text → letter_count place ≡ 0 → address_of text ≡ None
 unfolding read_place
@@ -445,7 +454,7 @@ pub no_row : (text place rest last : List ℕ) → place ≡ after_mark text →
 unfolding read_place
 no_row text place rest last at_place at_rest at_last none =
     no_address text (ap (place_after (is_marked text)) (sym at_place)
-        ∙ place_after-no_row (is_marked text) place rest (sym at_rest) (ap row_of (sym at_last) ∙ none))
+    ∙ place_after-no_row (is_marked text) place rest (sym at_rest) (ap row_of (sym at_last) ∙ none))
 
 pub found_parts : (text place rest last : List ℕ) (column row : ℕ) → place ≡ after_mark text → (letter_count place ≡ 0 → ⊥) → column ≡ column_of (take (letter_count place) place)
     → rest ≡ drop (letter_count place) place → last ≡ after_mark rest → row_of last ≡ Some row → Spells text (place_of column row (is_marked text) (is_marked rest))
@@ -477,7 +486,12 @@ length-mark_text false = omega arith
 pub length-parts : (p : Place) → IsPlace p → length (before_row p) + length (decimal p.row) ≤ 9
 length-parts p place =
     let column : length (column_text p.column) ≤ 2 =
-        column_text-by (λ letters. length letters ≤ 2) p.column place.column_low place.column_high (λ a _ _. omega arith) (λ a b _ _ _. omega arith) in
+    column_text-by (λ letters. length letters ≤ 2) p.column place.column_low place.column_high (λ a _ _. omega arith) (λ a b _ _ _. omega arith) in
     let row : length (decimal p.row) ≤ 5 = length-decimal-le 5 p.row (omega arith) (omega arith) (omega arith) in
-    omega (arith, length-mark_text p.fixed_column, length-mark_text p.fixed_row, length-append (mark_text p.fixed_column) (column_text p.column),
-        length-append (mark_text p.fixed_column ++ column_text p.column) (mark_text p.fixed_row))
+    omega (
+      arith,
+      length-mark_text p.fixed_column,
+      length-mark_text p.fixed_row,
+      length-append (mark_text p.fixed_column) (column_text p.column),
+      length-append (mark_text p.fixed_column ++ column_text p.column) (mark_text p.fixed_row),
+    )

@@ -34,7 +34,7 @@ place_after fixed_column text =
       column = column_of (take (letter_count text) text);
       row = row;
       fixed_column = fixed_column;
-      fixed_row = is_marked (drop (letter_count text) text)
+      fixed_row = is_marked (drop (letter_count text) text);
     }) (row_of (after_mark (drop (letter_count text) text)))
 
 -- the whole address

@@ -51,7 +51,7 @@ named_place text = record {
   column = column_of (filter is_ascii_uppercase text);
   row = digits_value 10 (filter is_ascii_digit text);
   fixed_column = slice_index text 0 == 36;
-  fixed_row = list_any (λ c. c == 36) (drop 1 text)
+  fixed_row = list_any (λ c. c == 36) (drop 1 text);
 }
 
 -- the place that the text spells: it is an address or a marked address where it is the spelling of

@@ -265,3 +265,89 @@ impl Area {
             && cell.row <= self.to.row
     }
 }
+
+#[cfg(test)]
+mod tests {
+    use super::*;
+    use std::test::Fail;
+
+    fn at(column: u16, row: u16, marks: (bool, bool)) -> Option<(u16, u16, bool, bool)> {
+        Some((column, row, marks.0, marks.1))
+    }
+
+    #[test]
+    fn reads_addresses(rt: HostRuntime) {
+        let none = (false, false);
+        for (text, want) in [
+            ("A1", at(1, 1, none)),
+            ("Z26", at(26, 26, none)),
+            ("AA1", at(27, 1, none)),
+            ("AZ10", at(52, 10, none)),
+            ("BA1", at(53, 1, none)),
+            ("ZZ16384", at(702, 16384, none)),
+            ("$A$1", at(1, 1, (true, true))),
+            ("$C7", at(3, 7, (true, false))),
+            ("C$7", at(3, 7, (false, true))),
+            ("", None),
+            ("A", None),
+            ("7", None),
+            ("A0", None),
+            ("A01", None),
+            ("A16385", None),
+            ("AAA1", None),
+            ("a1", None),
+            ("A1 ", None),
+            ("$$A1", None),
+            ("A1$", None),
+            ("A+1", None),
+        ] {
+            let read = Address::read(text).map(|a| (a.column, a.row, a.fixed_column, a.fixed_row));
+            assert!(rt; read == want, "{text}");
+        }
+    }
+
+    #[test]
+    fn writes_addresses(rt: HostRuntime) -> Result<(), Fail> {
+        for text in ["A1", "Z26", "AA10", "$AZ$101", "ZZ$16384", "$BA5000"] {
+            let mut out = ArrayString::new();
+            Address::read(text).ok_or("no address")?.write(&mut out);
+            assert_eq!(rt; out.as_str(), text);
+        }
+        Ok(())
+    }
+
+    #[test]
+    fn tells_names_that_look_like_addresses(rt: HostRuntime) {
+        for (text, want) in [
+            ("A1", true),
+            ("ZZ99999", true),
+            ("A0", true),
+            ("A", false),
+            ("AB", false),
+            ("ABC1", false),
+            ("a1", false),
+            ("A1b", false),
+            ("$A1", false),
+        ] {
+            assert_eq!(rt; Address::looks_like(text), want, "{text}");
+        }
+    }
+
+    #[test]
+    fn keeps_corners_in_order(rt: HostRuntime) -> Result<(), Fail> {
+        for (from, to, inside, want) in [
+            ("A1", "B3", "B2", Some(true)),
+            ("A1", "B3", "$A$3", Some(true)),
+            ("A1", "B3", "C1", Some(false)),
+            ("B1", "A3", "A1", None),
+            ("A3", "B1", "A1", None),
+        ] {
+            let from = Address::read(from).ok_or("no address")?;
+            let to = Address::read(to).ok_or("no address")?;
+            let inside = Address::read(inside).ok_or("no address")?;
+            let held = Area::of(from, to).map(|area| area.contains(&inside.unmarked()));
+            assert!(rt; held == want);
+        }
+        Ok(())
+    }
+}

@@ -141,3 +141,41 @@ impl Ord for Label {
         self.as_str().cmp(other.as_str())
     }
 }
+
+#[cfg(test)]
+mod tests {
+    use super::*;
+    use std::test::Fail;
+
+    #[test]
+    fn reads_labels(rt: HostRuntime) -> Result<(), Fail> {
+        for text in ["Body", "My box", "<<", "a>b", ">a", "größe", "a\u{7f}"] {
+            let label = Label::read(rt.alloc(), text)?;
+            assert_eq!(rt; label.as_str(), text);
+            assert!(rt; label.copy(rt.alloc())? == label, "a copy of {text}");
+        }
+        for text in ["", ">", "a>", "a>>b", ">>a", "a\tb", "a\n"] {
+            assert!(rt;
+                matches!(Label::read(rt.alloc(), text), Err(LabelFault::BadLabel)),
+                "{text}"
+            );
+        }
+        Ok(())
+    }
+
+    #[test]
+    fn counts_the_bytes_of_labels(rt: HostRuntime) -> Result<(), Fail> {
+        for (bytes, want) in [(1, true), (255, true), (256, false)] {
+            let mut text = String::new(rt.alloc());
+            for _ in 0..bytes {
+                text.push('x')?;
+            }
+            assert_eq!(rt;
+                Label::read(rt.alloc(), text.as_str()).is_ok(),
+                want,
+                "{bytes}"
+            );
+        }
+        Ok(())
+    }
+}

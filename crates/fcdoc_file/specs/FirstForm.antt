@@ -1,9 +1,10 @@
 -- Documents of the first form: VarSets of Float properties with own values. What their text is.
-use Rattle.std.specs.Prelude.{◌≡◌, ◌⊎◌, ℕ, ◌+◌, ℤ, Bool, true, ◌&&◌, not, nat_le, List, [], ◌∷◌, ◌++◌, length, map, sum_by, codes, IsTrue}
-use Rattle.std.specs.List.{flat_map, list_all, list_any, AllByRecursion}
-use Rattle.std.specs.Str.{bytes_eq}
+use Rattle.std.specs.Prelude.{◌≡◌, ◌⊎◌, ℕ, ◌+◌, ℤ, Bool, true, ◌&&◌, nat_le, List, [], ◌∷◌, ◌++◌, length, map, sum_by, codes, IsTrue}
+use Rattle.std.specs.List.{flat_map, list_all, AllByRecursion}
 use Rattle.std.specs.Fmt.{decimal}
 use Rattle.fc_base.specs.Texts.{is_name}
+use Rattle.property_types.specs.Reserved.{are_distinct}
+use Rattle.property_types.specs.SoundPlans.{is_property_name}
 use Rattle.quantities.specs.Amounts.{IsAmount}
 use Rattle.quantities.specs.Texts.{nine_text}
 
@@ -69,24 +70,9 @@ empty_text = codes "<Document SchemaVersion=\"4\"/>"
 
 -- ---- which objects there may be
 
--- no text stands twice in the list
-abbrev pub all_different : List (List ℕ) → Bool
-all_different [] = true
-all_different (x ∷ xs) = not (list_any (bytes_eq x) xs) && all_different xs
-
--- the names that no property of a user's may have
-abbrev pub reserved_names : List (List ℕ)
-reserved_names =
-    codes "Label" ∷ codes "ExpressionEngine" ∷ codes "Placement" ∷ codes "LinkTransform" ∷ codes "LinkedObject" ∷ codes "Links" ∷ codes "Global"
-    ∷ codes "cells" ∷ codes "Overrides" ∷ []
-
--- a name that a property of a user's may have
-abbrev pub is_free : List ℕ → Bool
-is_free name = not (list_any (bytes_eq name) reserved_names)
-
--- an object's properties have names of their own
+-- an object's properties have names of their own, which properties may have
 abbrev pub has_own_names : FirstObject → Bool
-has_own_names o = all_different (map (λ p. p.name) o.properties) && list_all (λ p. is_free p.name) o.properties
+has_own_names o = are_distinct (map (λ p. p.name) o.properties) && list_all (λ p. is_property_name p.name) o.properties
 
 -- at most 4,096 objects, and at most 65,536 properties in all
 abbrev pub is_within_limits : List FirstObject → Bool
@@ -94,7 +80,7 @@ is_within_limits objects = nat_le (length objects) 4096 && nat_le (sum_by (λ o.
 
 -- objects that stand together: no name twice, and within the limits
 abbrev pub stands_together : List FirstObject → Bool
-stands_together objects = all_different (map (λ o. o.name) objects) && list_all has_own_names objects && is_within_limits objects
+stands_together objects = are_distinct (map (λ o. o.name) objects) && list_all has_own_names objects && is_within_limits objects
 
 -- names are names, and values are in range
 abbrev pub IsFirstProperty : FirstProperty → Type 0
@@ -108,7 +94,3 @@ pub record IsFirstForm (objects : List FirstObject) : Type 0 where
   pub each : AllByRecursion IsFirstObject objects
   pub together : IsTrue (stands_together objects)
 
--- the bytes are the text of a document of the first form with these objects
-pub record ReadsFirst (bytes : List ℕ) (objects : List FirstObject) : Type 0 where
-  pub form : IsFirstForm objects
-  pub text : (bytes ≡ first_text objects) ⊎ ((bytes ≡ empty_text) × (objects ≡ []))

@@ -1,5 +1,7 @@
-pub mod Cursor
-pub mod FirstForm
-pub mod Reading
 pub mod Answers
+pub mod Cursor
+pub mod FirstDocument
+pub mod FirstForm
+pub mod Lookups
+pub mod Reading
 pub mod Rows

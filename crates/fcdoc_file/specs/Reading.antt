@@ -1,9 +1,12 @@
 -- Reading a document of the first form from the front of its text.
 use Rattle.std.specs.Prelude.{ℕ, ◌-◌, ◌==◌, if◌then◌else◌, ◌&&◌, ◌||◌, ℤ, nat_le, nat_lt, List, [], ◌∷◌, length, codes, unsigned_abs, Option, None, Some}
+use Rattle.std.specs.Option.{option_map}
 use Rattle.std.specs.Str.{bytes_eq}
 use Rattle.std.specs.Fmt.{decimal}
 use Rattle.fc_base.specs.Texts.{is_name}
 use Rattle.fcdoc_file.specs.Cursor.{◌>>=◌, after, quoted, numeral, each, numbers}
+use Rattle.document_model.specs.Document.{Document}
+use Rattle.fcdoc_file.specs.FirstDocument.{first_document}
 use Rattle.fcdoc_file.specs.FirstForm.{FirstProperty, FirstObject, first_text, empty_text, stands_together}
 use Rattle.quantities.specs.Amounts.{greatest, signed}
 use Rattle.quantities.specs.Digits.{number_after, begins_with_minus}
@@ -104,3 +107,7 @@ first_form_of bytes =
     if bytes_eq bytes empty_text || bytes_eq bytes (first_text []) then Some [] else (do
       objects ← content_at bytes
       if stands_together objects then Some objects else None)
+
+-- the document that the bytes are the text of, of the first form; text that is no UTF-8 is that of none
+abbrev pub document_of : List ℕ → Option Document
+document_of bytes = option_map first_document (first_form_of bytes)

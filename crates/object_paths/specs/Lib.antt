@@ -1,3 +1,6 @@
 pub mod Slots
 pub mod Order
 pub mod Paths
+pub mod PathTexts
+pub mod PathParts
+pub mod Read

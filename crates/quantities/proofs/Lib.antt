@@ -1,6 +1,9 @@
+pub mod DecimalLemmas
 pub mod Digits
 pub mod Nearest
 pub mod Powers
 pub mod Products
 pub mod ReadLemmas
+pub mod RoundedDigits
+pub mod ScalingLemmas
 pub mod TextLemmas

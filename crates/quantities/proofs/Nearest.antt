@@ -5,10 +5,10 @@ use Rattle.std.proofs.lemmas.Nat.{div-mul-add}
 use Rattle.quantities.specs.Arithmetic.{nearest}
 
 -- the quotient q times k and a rest, doubled
-doubled : (q k r rest : ℕ) → q + 2 * r ≡ rest → 2 * (q * k + r) + q ≡ k * (2 * q) + rest
+pub doubled : (q k r rest : ℕ) → q + 2 * r ≡ rest → 2 * (q * k + r) + q ≡ k * (2 * q) + rest
 doubled q k r rest e = omega arith
 
-doubled_more : (q k r rest : ℕ) → 2 * r ≡ q + rest → 2 * (q * k + r) + q ≡ (k + 1) * (2 * q) + rest
+pub doubled_more : (q k r rest : ℕ) → 2 * r ≡ q + rest → 2 * (q * k + r) + q ≡ (k + 1) * (2 * q) + rest
 doubled_more q k r rest e = omega arith
 
 -- with less than half a divisor left, it is the quotient

@@ -1,4 +1,7 @@
 pub mod Amounts
 pub mod Arithmetic
+pub mod Decimals
 pub mod Digits
+pub mod Quantities
+pub mod Scaling
 pub mod Texts

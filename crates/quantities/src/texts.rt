@@ -72,6 +72,7 @@ pub fn number_of_digits(text: &[u8]) -> u128
     requires { length text.now ≤ 31 }
     ensures value { result ≡ number_after 0 text.now }
     ensures bounded { result < 10 ^ 31 }
+    ensures short { result < 10 ^ length text.now }
 {
     let mut number = 0u128;
     for byte in text {

@@ -13,7 +13,8 @@ returns-then-row-gt-LAST_ROW c =
 
 pub loop-digit-preserved : goal.loop-digit-preserved
 loop-digit-preserved c =
-    let digit = sym c.if-not-is_ascii_digit.ensures.value in
-    (ap (λ n. c.loop-digit.row * 10 + n) c.from.ensures ∙ digits_value-more c.args.text.now c.loop-digit.digit-index c.loop-digit.row c.loop-digit-test.true c.loop-digit.invariant.0 digit,
-        all_digits-more c.args.text.now c.loop-digit.digit-index c.loop-digit-test.true c.loop-digit.invariant.1 digit,
-        c.if-row-gt-LAST_ROW.false)
+    let digit = sym c.if-not-is_ascii_digit.ensures.value in (
+      ap (λ n. c.loop-digit.row * 10 + n) c.from.ensures ∙ digits_value-more c.args.text.now c.loop-digit.digit-index c.loop-digit.row c.loop-digit-test.true c.loop-digit.invariant.0 digit,
+      all_digits-more c.args.text.now c.loop-digit.digit-index c.loop-digit-test.true c.loop-digit.invariant.1 digit,
+      c.if-row-gt-LAST_ROW.false,
+    )

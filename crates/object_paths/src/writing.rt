@@ -1,0 +1,94 @@
+ghost use Rattle.std.specs.Prelude.{◌≡◌, ◌++◌, IfOk, IsTrue, string_bytes, OnOk};
+ghost use Rattle.object_paths.specs.PathTexts.{component_text, slot_text, is_word, needs_dot, owner_text, path_text};
+
+use crate::path::{Owner, Path};
+use crate::slot_name::{Component, SlotName};
+use arrayvec::ArrayString;
+use std::alloc::{AllocError, Global};
+use unit_signatures::unit_named;
+
+/// Whether an identifier alone is the name of a unit, `true` or `false`, and so no name.
+pub(crate) fn is_word(text: &str) -> bool
+    ensures { result ≡ is_word text.now }
+{
+    unit_named(text).is_some() || text == "true" || text == "false"
+}
+
+/// A component behind its placement's name and a dot.
+fn component_text(component: Component) -> &'static str
+    ensures { result.now ≡ component_text component }
+{
+    match component {
+        Component::X => "Base.x",
+        Component::Y => "Base.y",
+        Component::Z => "Base.z",
+        Component::Turn => "Rotation.Turn",
+    }
+}
+
+/// Whether the slot is one identifier, which without a dot would be a unit or a flag.
+fn needs_dot(slot: &SlotName) -> bool
+    ensures { result ≡ needs_dot slot.now }
+{
+    match slot {
+        SlotName::Plain(name) => is_word(name.as_str()),
+        SlotName::Component(..) | SlotName::Marked(_) => false,
+    }
+}
+
+/// Writes what stands before the slot.
+fn push_owner(owner: &Owner, slot: &SlotName, out: &mut String) -> Result<(), AllocError>
+    ensures { OnOk result (string_bytes out.new ≡ string_bytes out.old ++ owner_text owner.now slot.now) }
+{
+    match owner {
+        Owner::Here => {
+            if needs_dot(slot) {
+                out.push_str(".")?;
+            }
+            Ok(())
+        }
+        Owner::ByName(name) => {
+            out.push_str(name.as_str())?;
+            out.push_str(".")
+        }
+        Owner::ByLabel(label) => {
+            out.push_str("<<")?;
+            out.push_str(label.as_str())?;
+            out.push_str(">>.")
+        }
+    }
+}
+
+/// Writes a slot's own name.
+fn push_slot(slot: &SlotName, out: &mut String) -> Result<(), AllocError>
+    ensures { OnOk result (string_bytes out.new ≡ string_bytes out.old ++ slot_text slot.now) }
+{
+    match slot {
+        SlotName::Plain(name) => out.push_str(name.as_str()),
+        SlotName::Component(name, component) => {
+            out.push_str(name.as_str())?;
+            out.push_str(".")?;
+            out.push_str(component_text(*component))
+        }
+        SlotName::Marked(address) => {
+            let mut text = ArrayString::new();
+            address.write(&mut text);
+            out.push_str(text.as_str())
+        }
+    }
+}
+
+impl Path {
+    /// Writes the path in its one spelling: the owner's name, or its label between `<<` and `>>`,
+    /// a dot and the slot, as in `Box.Width`, `<<My box>>.Placement.Base.x` and `Width`. A path to
+    /// the object itself has no dot in front, but where its slot is one identifier that alone is
+    /// the name of a unit, `true` or `false`: `.m`.
+    pub fn write(&self, alloc: Global) -> Result<String, AllocError>
+        ensures { IfOk result (λ text. string_bytes text ≡ path_text self.now) }
+    {
+        let mut text = String::new(alloc);
+        push_owner(&self.owner, &self.slot, &mut text)?;
+        push_slot(&self.slot, &mut text)?;
+        Ok(text)
+    }
+}
