@@ -1,2 +1,4 @@
 pub mod AsciiNames
 pub mod ExampleLemmas
+pub mod Members
+pub mod DependencyLemmas

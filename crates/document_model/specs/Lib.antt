@@ -1,4 +1,5 @@
 pub mod Document
+pub mod Kinds
 pub mod Ends
 pub mod TypedSlots
 pub mod Slots

@@ -5,3 +5,4 @@ pub mod Levels
 pub mod TreeFalls
 pub mod References
 pub mod Spelled
+pub mod Numbered

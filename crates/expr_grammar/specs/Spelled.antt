@@ -1,7 +1,8 @@
 -- The trees whose leaves a text can spell.
-use Rattle.std.specs.Prelude.{ℕ, ℤ, pos, negsuc, Bool, ◌&&◌, not, List, Option, None, Some, int_le, IsTrue}
+use Rattle.std.specs.Prelude.{ℕ, ℤ, pos, negsuc, Bool, ◌&&◌, not, List, Option, None, Some, is_some, int_le, IsTrue}
 use Rattle.fc_base.specs.Places.{IsPlace, Block, IsBlock}
-use Rattle.fc_base.specs.Texts.{is_name, is_text_value, has_closing_mark, ends_in_mark}
+use Rattle.fc_base.specs.Texts.{is_text_value, has_closing_mark, ends_in_mark}
+use Rattle.unit_signatures.specs.Table.{unit_named}
 use Rattle.quantities.specs.Amounts.{IsAmount}
 use Rattle.object_paths.specs.Paths.{IsPath}
 use Rattle.expr_grammar.specs.declared.expr.UnitPower.{UnitPower}
@@ -11,10 +12,14 @@ use Rattle.expr_grammar.specs.Tree.{Tree, literal, unit_one, flag, text, path, n
 abbrev pub is_exponent : ℤ → Bool
 is_exponent n = int_le (negsuc 98) n && int_le n (pos 99)
 
--- no unit, or a name and an exponent
+-- a name that the table of units has
+abbrev pub is_unit_name : List ℕ → Bool
+is_unit_name name = is_some (unit_named name)
+
+-- no unit, or one of the table and an exponent
 abbrev pub IsUnitPower : Option UnitPower → Type 0
 IsUnitPower None = Unit {0}
-IsUnitPower (Some u) = IsTrue (is_name u.unit) × IsTrue (is_exponent u.exponent)
+IsUnitPower (Some u) = IsTrue (is_unit_name u.unit) × IsTrue (is_exponent u.exponent)
 
 -- an amount that is not negative, since a numeral has no sign
 pub record IsNumeral (raw : ℤ) : Type 0 where
@@ -35,7 +40,7 @@ pub record IsArea (area : Block) : Type 0 where
 abbrev mutual
   pub IsSpelled : Tree → Type 0
   IsSpelled (literal x u) = IsNumeral x × IsUnitPower u
-  IsSpelled (unit_one u) = IsTrue (is_name u)
+  IsSpelled (unit_one u) = IsTrue (is_unit_name u)
   IsSpelled (flag b) = Unit {0}
   IsSpelled (text t) = IsTrue (is_quotable t)
   IsSpelled (path p) = IsPath p

@@ -1,4 +1,5 @@
 //! Laws of the definitions, each as the contract of a function with nothing to do.
+ghost use Rattle.expr_grammar.specs.Numbered.{NumbersDontMatter};
 ghost use Rattle.expr_grammar.specs.References.{ReferencesAreCounted, ReferencesAreChanged};
 
 /// The references of a tree are as many as are counted, so their numbers begin at 0 and leave none
@@ -11,4 +12,10 @@ pub fn references_are_counted()
 /// their order.
 pub fn references_are_changed()
     ensures { ReferencesAreChanged }
+{}
+
+/// Where references are changed by number, and the change does not look at the number, all are
+/// changed alike.
+pub fn numbers_dont_matter()
+    ensures { NumbersDontMatter }
 {}

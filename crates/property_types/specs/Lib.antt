@@ -5,3 +5,4 @@ pub mod Fits
 pub mod Reserved
 pub mod Plans
 pub mod SoundPlans
+pub mod Examples
