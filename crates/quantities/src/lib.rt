@@ -10,6 +10,7 @@ mod mark;
 mod of_unit;
 mod quantity;
 mod quantity_fault;
+mod round_trip;
 mod scaling;
 mod texts;
 
@@ -19,3 +20,4 @@ pub use decimal::read_decimal;
 pub use decimal_fault::DecimalFault;
 pub use quantity::Quantity;
 pub use quantity_fault::QuantityFault;
+pub use round_trip::written_amounts_are_read_back;
