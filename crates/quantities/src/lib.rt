@@ -12,6 +12,8 @@ mod quantity;
 mod quantity_fault;
 mod round_trip;
 mod scaling;
+#[cfg(test)]
+mod tests;
 mod texts;
 
 pub use amount::{Amount, Range};
