@@ -1,5 +1,6 @@
 use super::*;
 use arrayvec::ArrayString;
+use unit_signatures::unit_named;
 
 const GREATEST: i128 = 10_000_000_000_000_000_000_000_000_000;
 
@@ -232,4 +233,59 @@ fn amounts_are_rounded(rt: HostRuntime) {
     for row in ROUNDED.iter() {
         assert_eq!(rt; rounded(row[0]), Ok(*row));
     }
+}
+
+fn quantity(number: i128, name: &str) -> Option<Quantity> {
+    let (factor, unit) = unit_named(name)?;
+    let amount = Amount::of_raw(number.checked_mul(factor)?).ok()?;
+    Some(Quantity { amount, unit })
+}
+
+/// What a calculation with quantities gives: the amount in billionths, and whether the unit is this.
+fn is_quantity(outcome: Result<Quantity, QuantityFault>, raw: i128, unit: &str) -> bool {
+    let mut written = ArrayString::new();
+    match outcome {
+        Ok(found) => {
+            found.unit.write(&mut written);
+            found.amount.raw() == raw && written.as_str() == unit
+        }
+        Err(_) => false,
+    }
+}
+
+fn quotient_is(left: (i128, &str), right: (i128, &str), raw: i128, unit: &str) -> bool {
+    match (quantity(left.0, left.1), quantity(right.0, right.1)) {
+        (Some(left), Some(right)) => is_quantity(left.over(&right), raw, unit),
+        _ => false,
+    }
+}
+
+fn sum_fault(left: (i128, &str), right: (i128, &str)) -> Option<QuantityFault> {
+    let left = quantity(left.0, left.1)?;
+    let right = quantity(right.0, right.1)?;
+    left.plus(&right).err()
+}
+
+fn power_fault(base: (i128, &str), n: i8) -> Option<QuantityFault> {
+    quantity(base.0, base.1)?.power(n).err()
+}
+
+#[test]
+fn quantities_are_calculated(rt: HostRuntime) {
+    assert!(rt; quotient_is((2, "m"), (4, "mm"), 500_000_000_000, ""));
+    assert!(rt; quotient_is((3, "min"), (1, "s"), 180_000_000_000, ""));
+    // 7850 kg in a cube of 1 m
+    assert!(rt; quotient_is((7_850, "kg"), (1_000, "l"), 7_850, "mm^-3*kg"));
+    assert_eq!(rt;
+        sum_fault((1, "m"), (1, "s")),
+        Some(QuantityFault::UnitMismatch)
+    );
+    assert_eq!(rt;
+        power_fault((1, "mm"), 8),
+        Some(QuantityFault::ExponentRange)
+    );
+    assert_eq!(rt;
+        power_fault((10_000_000_000, "kg"), 2),
+        Some(QuantityFault::Range)
+    );
 }
