@@ -13,7 +13,7 @@ use Rattle.quantities.specs.Scaling.{kept}
 use Rattle.quantities.specs.Decimals.{is_mark, has, before, behind, without_sign, are_digits, is_mantissa, mantissa, exponent, is_decimal, size_of, has_exponent, decimal_size, decimal_value}
 use Rattle.quantities.proofs.RoundedDigits.{digit_count, kept-nearest, number_after-below, places_right, places_left, places_past}
 
-both : (a b : Bool) → (a && b) ≡ true → (a ≡ true) × (b ≡ true)
+pub both : (a b : Bool) → (a && b) ≡ true → (a ≡ true) × (b ≡ true)
 both true b h = (refl, h)
 both false b h = absurd (cc)
 

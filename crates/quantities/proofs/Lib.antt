@@ -4,6 +4,7 @@ pub mod Nearest
 pub mod Powers
 pub mod Products
 pub mod ReadLemmas
+pub mod RoundTrip
 pub mod RoundedDigits
 pub mod ScalingLemmas
 pub mod TextLemmas

@@ -12,7 +12,7 @@ use Rattle.quantities.specs.Texts.{billion, digits_below, whole_text, nine_text}
 use Rattle.quantities.proofs.Digits.{length-digits_below, last_places}
 use Rattle.quantities.proofs.TextLemmas.{length-sign, length-whole}
 
-number_after-append : (n : ℕ) (xs ys : List ℕ) → number_after n (xs ++ ys) ≡ number_after (number_after n xs) ys
+pub number_after-append : (n : ℕ) (xs ys : List ℕ) → number_after n (xs ++ ys) ≡ number_after (number_after n xs) ys
 number_after-append n [] ys = refl
 number_after-append n (x ∷ xs) ys = number_after-append (cond (is_ascii_digit x) (n * 10 + (x - 48)) n) xs ys
 
@@ -24,7 +24,7 @@ number_after-digit n d cs small =
     ap (λ b. number_after (cond b (n * 10 + (48 + d - 48)) n) cs) digit ∙ ap (λ e. number_after (n * 10 + e) cs) same
 
 -- the digits of a printed number make that number
-number_after-decimal : (n : ℕ) → n < 10 ^ 64 → number_after 0 (decimal n) ≡ n
+pub number_after-decimal : (n : ℕ) → n < 10 ^ 64 → number_after 0 (decimal n) ≡ n
 number_after-decimal n small =
     decimal_by_steps_wide (λ m ds. number_after 0 ds ≡ m)
     (λ m below. number_after-digit 0 m [] below ∙ omega arith)
@@ -38,7 +38,7 @@ shifted : (m digit unit rest : ℕ) → (m * 10 + digit) * unit + rest ≡ m * (
 shifted m digit unit rest = omega arith
 
 -- the digits at the last places come behind what was read before
-number_after-places : (k m n : ℕ) → number_after m (digits_below k n) ≡ m * 10 ^ k + n % 10 ^ k
+pub number_after-places : (k m n : ℕ) → number_after m (digits_below k n) ≡ m * 10 ^ k + n % 10 ^ k
 unfolding digits_below
 number_after-places zero m n = omega arith
 number_after-places (suc k) m n =
@@ -82,14 +82,14 @@ signed-parts (pos n) = ap (λ b. signed b n) (is_negative-pos n)
 signed-parts (negsuc n) = refl
 
 -- a printed number does not begin with `-`, whatever follows it
-no_minus : (n : ℕ) → n < 10 ^ 64 → (rest : List ℕ) → begins_with_minus (decimal n ++ rest) ≡ false
+pub no_minus : (n : ℕ) → n < 10 ^ 64 → (rest : List ℕ) → begins_with_minus (decimal n ++ rest) ≡ false
 no_minus n small =
     decimal_by_steps_wide (λ m ds. (rest : List ℕ) → begins_with_minus (ds ++ rest) ≡ false)
     (λ m below rest. grind (arith, nat_tests))
     (λ m ds above h rest. ap begins_with_minus (append_assoc ds ((48 + m % 10) ∷ []) rest) ∙ h ((48 + m % 10) ∷ rest))
     n small
 
-begins-sign : (negative : Bool) (cs : List ℕ) → begins_with_minus cs ≡ false → begins_with_minus (sign_text negative ++ cs) ≡ negative
+pub begins-sign : (negative : Bool) (cs : List ℕ) → begins_with_minus cs ≡ false → begins_with_minus (sign_text negative ++ cs) ≡ negative
 begins-sign true cs h = refl
 begins-sign false cs h = h
 

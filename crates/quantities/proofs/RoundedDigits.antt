@@ -35,7 +35,7 @@ nearest-scaled p q c some =
     let bottom : 2 * (q * c) ≡ 2 * q * c = omega arith in
     ap (λ n. n / (2 * (q * c))) top ∙ ap (λ n. (2 * p + q) * c / n) bottom ∙ mul-div-mul_right {m = c} (2 * p + q) (2 * q) some
 
-nearest-one : (p : ℕ) → nearest p 1 ≡ p
+pub nearest-one : (p : ℕ) → nearest p 1 ≡ p
 unfolding nearest
 nearest-one p = omega arith
 

@@ -63,9 +63,21 @@ module _ (raw : ℤ) (negative : Bool) (magnitude : ℕ) (whole pointed bytes : 
       ∙ ap (λ n. (whole_text raw ++ 46 ∷ []) ++ without_final_zeros (digits_below 9 n)) size
       ∙ sym (decimal_text-fraction raw (λ none. some (ap (λ n. n % billion) size ∙ none)))
 
-list_all-append : (p : ℕ → Bool) (xs ys : List ℕ) → list_all p xs ≡ true → list_all p ys ≡ true → list_all p (xs ++ ys) ≡ true
+pub list_all-append : (p : ℕ → Bool) (xs ys : List ℕ) → list_all p xs ≡ true → list_all p ys ≡ true → list_all p (xs ++ ys) ≡ true
 list_all-append p [] ys h k = k
 list_all-append p (x ∷ xs) ys h k = elim (p x) as (λ b. b && list_all p xs ≡ true → b && list_all p (xs ++ ys) ≡ true) [ true ↦ λ e. list_all-append p xs ys e k | false ↦ λ e. e ] h
+
+-- a test that digits pass
+module _ (p : ℕ → Bool) (digit : (d : ℕ) → d < 10 → p (48 + d) ≡ true) where
+  pub list_all-decimal : (n : ℕ) → n < 10 ^ 64 → list_all p (decimal n) ≡ true
+  list_all-decimal n small =
+      decimal_by_steps_wide (λ m ds. list_all p ds ≡ true) (λ m below. rw (digit m below) refl)
+      (λ m ds above h. list_all-append p ds ((48 + m % 10) ∷ []) h (rw (digit (m % 10) (mod-lt m (omega arith))) refl)) n small
+
+  pub list_all-digits : (k n : ℕ) → list_all p (digits_below k n) ≡ true
+  unfolding digits_below
+  list_all-digits zero n = refl
+  list_all-digits (suc k) n = rw (digit (n / 10 ^ k % 10) (mod-lt (n / 10 ^ k) (omega arith))) (list_all-digits k n)
 
 -- a test that digits, `-` and `.` pass
 module _ (p : ℕ → Bool) (digit : (d : ℕ) → d < 10 → p (48 + d) ≡ true) (minus : p 45 ≡ true) (point : p 46 ≡ true) where
@@ -73,28 +85,18 @@ module _ (p : ℕ → Bool) (digit : (d : ℕ) → d < 10 → p (48 + d) ≡ tru
   list_all-sign true = rw minus refl
   list_all-sign false = refl
 
-  list_all-decimal : (n : ℕ) → n < 10 ^ 64 → list_all p (decimal n) ≡ true
-  list_all-decimal n small =
-      decimal_by_steps_wide (λ m ds. list_all p ds ≡ true) (λ m below. rw (digit m below) refl)
-      (λ m ds above h. list_all-append p ds ((48 + m % 10) ∷ []) h (rw (digit (m % 10) (mod-lt m (omega arith))) refl)) n small
-
-  list_all-digits : (k n : ℕ) → list_all p (digits_below k n) ≡ true
-  unfolding digits_below
-  list_all-digits zero n = refl
-  list_all-digits (suc k) n = rw (digit (n / 10 ^ k % 10) (mod-lt (n / 10 ^ k) (omega arith))) (list_all-digits k n)
-
   list_all-whole : (raw : ℤ) → IsAmount raw → list_all p (whole_text raw) ≡ true
   unfolding whole_text
   list_all-whole raw bounded =
       list_all-append p (sign_text (is_negative raw)) (decimal (unsigned_abs raw / billion)) (list_all-sign (is_negative raw))
-      (list_all-decimal (unsigned_abs raw / billion) (omega arith))
+      (list_all-decimal p digit (unsigned_abs raw / billion) (omega arith))
 
   -- each byte of the text of nine decimals passes
   pub list_all-nine_text : (raw : ℤ) → IsAmount raw → list_all p (nine_text raw) ≡ true
   unfolding nine_text
   list_all-nine_text raw bounded =
       list_all-append p (whole_text raw) (46 ∷ digits_below 9 (unsigned_abs raw)) (list_all-whole raw bounded)
-      (rw point (list_all-digits 9 (unsigned_abs raw)))
+      (rw point (list_all-digits p digit 9 (unsigned_abs raw)))
 
 -- the text of nine decimals has no `"`
 pub nine_text-no_quote : (raw : ℤ) → IsAmount raw → list_all (λ c. not (eqb c 34)) (nine_text raw) ≡ true

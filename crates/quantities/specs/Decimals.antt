@@ -40,7 +40,8 @@ are_digits most text = nat_le 1 (length text) && nat_le (length text) most && li
 
 -- 1 to 40 digits, and where there is a point, 1 to 40 digits behind it
 abbrev pub is_mantissa : List ℕ → Bool
-is_mantissa text = are_digits 40 (before Point text) && (not (has Point text) || are_digits 40 (behind Point text))
+is_mantissa text =
+    are_digits 40 (before Point text) && (not (has Point text) || are_digits 40 (behind Point text))
 
 -- the parts of a decimal
 abbrev pub mantissa : List ℕ → List ℕ
@@ -54,7 +55,9 @@ has_exponent text = has Exponent (without_sign text)
 
 -- a mantissa, and where there is an `e`, 1 or 2 digits behind it and its sign
 unfoldable pub is_decimal : List ℕ → Bool
-is_decimal text = is_mantissa (mantissa text) && (not (has_exponent text) || are_digits 2 (without_sign (exponent text)))
+is_decimal text =
+    is_mantissa (mantissa text)
+    && (not (has_exponent text) || are_digits 2 (without_sign (exponent text)))
 
 -- by how many places an exponent moves the point to the right, and to the left
 abbrev pub moved_right : List ℕ → ℕ
@@ -65,7 +68,9 @@ moved_left e = if begins_with_minus e then number_after 0 e else 0
 
 -- the billionths of a mantissa and an exponent, rounded
 unfoldable pub size_of : List ℕ → List ℕ → ℕ
-size_of m e = nearest (number_after 0 m * 10 ^ (9 + moved_right e)) (10 ^ (length (behind Point m) + moved_left e))
+size_of m e =
+    nearest (number_after 0 m * 10 ^ (9 + moved_right e))
+    (10 ^ (length (behind Point m) + moved_left e))
 
 -- the billionths of a decimal without its sign
 abbrev pub decimal_size : List ℕ → ℕ
@@ -74,6 +79,7 @@ decimal_size text = size_of (mantissa text) (exponent text)
 -- the amount that a decimal says
 unfoldable pub decimal_value : List ℕ → Result ℤ DecimalFault
 decimal_value text =
+    let size = decimal_size text in
     if is_decimal text
-    then (if nat_le (decimal_size text) greatest then Ok (signed (begins_with_minus text) (decimal_size text)) else Err Range)
+    then (if nat_le size greatest then Ok (signed (begins_with_minus text) size) else Err Range)
     else Err NotDecimal

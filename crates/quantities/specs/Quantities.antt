@@ -25,6 +25,10 @@ in_unit (Err _) amount = Err fault.ExponentRange
 abbrev pub same_unit : Quantity → Quantity → Bool
 same_unit a b = pointwise int_eq a.unit b.unit
 
+-- the unit of both, where it is the same
+abbrev pub common_unit : Quantity → Quantity → Result (List ℤ) QuantityFault
+common_unit a b = if same_unit a b then Ok a.unit else Err fault.UnitMismatch
+
 -- what was calculated where the units are the same
 abbrev pub in_same_unit : Quantity → Quantity → Calculated → Result Quantity QuantityFault
 in_same_unit a b amount = if same_unit a b then of_unit a.unit amount else Err fault.UnitMismatch

@@ -16,7 +16,8 @@ digits_below (suc k) n = (48 + n / 10 ^ k % 10) ∷ digits_below k n
 -- a list of digits without the zeros at its end
 unfoldable pub without_final_zeros : List ℕ → List ℕ
 without_final_zeros [] = []
-without_final_zeros (d ∷ ds) = if list_all (λ e. e == 48) (d ∷ ds) then [] else d ∷ without_final_zeros ds
+without_final_zeros (d ∷ ds) =
+    if list_all (λ e. e == 48) (d ∷ ds) then [] else d ∷ without_final_zeros ds
 
 -- digits behind a point, and nothing where there are none
 abbrev pub behind_point : List ℕ → List ℕ

@@ -88,7 +88,7 @@ fn size(text: &[u8]) -> Option<u128>
 fn size_of(mantissa: &[u8], exponent: &[u8]) -> Option<u128>
     requires mantissa { IsTrue (is_mantissa mantissa.now) }
     requires short { length exponent.now ≤ 3 }
-    ensures { SomeIff result (size_of mantissa.now exponent.now ≤ greatest) (size_of mantissa.now exponent.now) }
+    ensures { let size = size_of mantissa.now exponent.now in SomeIff result (size ≤ greatest) size }
 {
     let (whole, _) = split(Mark::Point, mantissa);
     let places = whole.len() as u32 + 9;

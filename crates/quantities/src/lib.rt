@@ -10,7 +10,10 @@ mod mark;
 mod of_unit;
 mod quantity;
 mod quantity_fault;
+mod round_trip;
 mod scaling;
+#[cfg(test)]
+mod tests;
 mod texts;
 
 pub use amount::{Amount, Range};
@@ -19,3 +22,4 @@ pub use decimal::read_decimal;
 pub use decimal_fault::DecimalFault;
 pub use quantity::Quantity;
 pub use quantity_fault::QuantityFault;
+pub use round_trip::written_amounts_are_read_back;

@@ -13,17 +13,14 @@ pub struct Quantity {
 }
 
 impl Quantity {
-    ghost use Rattle.quantities.specs.Quantities.{quantity_minus, quantity_modulo, quantity_over, quantity_plus, quantity_power, quantity_times};
+    ghost use Rattle.quantities.specs.Quantities.{common_unit, quantity_minus, quantity_modulo, quantity_over, quantity_plus, quantity_power, quantity_times};
 
     /// The sum; `UnitMismatch` exactly where the units differ, else `Range` exactly where the sum
     /// leaves the bound of an amount.
     pub fn plus(&self, other: &Quantity) -> Result<Quantity, QuantityFault>
         ensures { result ≡ quantity_plus self.now other.now }
     {
-        if self.unit != other.unit {
-            return Err(QuantityFault::UnitMismatch);
-        }
-        of_unit(self.unit, self.amount.plus(&other.amount))
+        of_unit(self.common_unit(other)?, self.amount.plus(&other.amount))
     }
 
     /// The difference; `UnitMismatch` exactly where the units differ, else `Range` exactly where it
@@ -31,10 +28,7 @@ impl Quantity {
     pub fn minus(&self, other: &Quantity) -> Result<Quantity, QuantityFault>
         ensures { result ≡ quantity_minus self.now other.now }
     {
-        if self.unit != other.unit {
-            return Err(QuantityFault::UnitMismatch);
-        }
-        of_unit(self.unit, self.amount.minus(&other.amount))
+        of_unit(self.common_unit(other)?, self.amount.minus(&other.amount))
     }
 
     /// The remainder, with the sign of the dividend; `UnitMismatch` exactly where the units differ,
@@ -42,10 +36,7 @@ impl Quantity {
     pub fn modulo(&self, other: &Quantity) -> Result<Quantity, QuantityFault>
         ensures { result ≡ quantity_modulo self.now other.now }
     {
-        if self.unit != other.unit {
-            return Err(QuantityFault::UnitMismatch);
-        }
-        of_unit(self.unit, self.amount.modulo(&other.amount))
+        of_unit(self.common_unit(other)?, self.amount.modulo(&other.amount))
     }
 
     /// The product; `ExponentRange` exactly where the unit has an exponent outside -8 to 7, else
@@ -77,5 +68,16 @@ impl Quantity {
         let unit = self.unit.power(n);
         let unit = unit.map_err(|_| QuantityFault::ExponentRange)?;
         of_unit(unit, self.amount.power(n))
+    }
+
+    /// The unit of both; `UnitMismatch` exactly where they differ.
+    fn common_unit(&self, other: &Quantity) -> Result<Unit, QuantityFault>
+        ensures { result ≡ common_unit self.now other.now }
+    {
+        if self.unit == other.unit {
+            Ok(self.unit)
+        } else {
+            Err(QuantityFault::UnitMismatch)
+        }
     }
 }

@@ -2,6 +2,8 @@
 #![tactic(auto)]
 
 mod table;
+#[cfg(test)]
+mod tests;
 mod unit;
 mod writing;
 

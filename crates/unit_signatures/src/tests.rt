@@ -1,0 +1,108 @@
+use super::*;
+use arrayvec::ArrayString;
+
+/// Names, factors in billionths of a base unit, and units.
+static NAMED: [(&str, i128, &str); 42] = [
+    ("nm", 1_000, "mm"),
+    ("um", 1_000_000, "mm"),
+    ("mm", 1_000_000_000, "mm"),
+    ("cm", 10_000_000_000, "mm"),
+    ("dm", 100_000_000_000, "mm"),
+    ("m", 1_000_000_000_000, "mm"),
+    ("km", 1_000_000_000_000_000, "mm"),
+    ("in", 25_400_000_000, "mm"),
+    ("ft", 304_800_000_000, "mm"),
+    ("yd", 914_400_000_000, "mm"),
+    ("thou", 25_400_000, "mm"),
+    ("mg", 1_000, "kg"),
+    ("g", 1_000_000, "kg"),
+    ("kg", 1_000_000_000, "kg"),
+    ("t", 1_000_000_000_000, "kg"),
+    ("s", 1_000_000_000, "s"),
+    ("min", 60_000_000_000, "s"),
+    ("h", 3_600_000_000_000, "s"),
+    ("A", 1_000_000_000, "A"),
+    ("mA", 1_000_000, "A"),
+    ("kA", 1_000_000_000_000, "A"),
+    ("K", 1_000_000_000, "K"),
+    ("mK", 1_000_000, "K"),
+    ("mol", 1_000_000_000, "mol"),
+    ("mmol", 1_000_000, "mol"),
+    ("cd", 1_000_000_000, "cd"),
+    ("deg", 1_000_000_000, "deg"),
+    ("gon", 900_000_000, "deg"),
+    ("l", 1_000_000_000_000_000, "mm^3"),
+    ("ml", 1_000_000_000_000, "mm^3"),
+    ("mN", 1_000_000_000, "mm*kg*s^-2"),
+    ("N", 1_000_000_000_000, "mm*kg*s^-2"),
+    ("kN", 1_000_000_000_000_000, "mm*kg*s^-2"),
+    ("Pa", 1_000_000, "mm^-1*kg*s^-2"),
+    ("kPa", 1_000_000_000, "mm^-1*kg*s^-2"),
+    ("MPa", 1_000_000_000_000, "mm^-1*kg*s^-2"),
+    ("GPa", 1_000_000_000_000_000, "mm^-1*kg*s^-2"),
+    ("J", 1_000_000_000_000_000, "mm^2*kg*s^-2"),
+    ("W", 1_000_000_000_000_000, "mm^2*kg*s^-3"),
+    ("Hz", 1_000_000_000, "s^-1"),
+    ("kHz", 1_000_000_000_000, "s^-1"),
+    ("MHz", 1_000_000_000_000_000, "s^-1"),
+];
+
+fn is_written_as(unit: &Unit, text: &str) -> bool {
+    let mut written = ArrayString::new();
+    unit.write(&mut written);
+    written.as_str() == text
+}
+
+fn is_named(name: &str, factor: i128, text: &str) -> bool {
+    match unit_named(name) {
+        Some((found, unit)) => found == factor && is_written_as(&unit, text),
+        None => false,
+    }
+}
+
+#[test]
+fn units_are_named(rt: HostRuntime) {
+    for (name, factor, text) in NAMED.iter() {
+        assert!(rt; is_named(name, *factor, text));
+    }
+    assert!(rt; unit_named("lb").is_none());
+}
+
+/// Two units, and the text of their quotient.
+static QUOTIENTS: [(&str, &str, &str); 3] = [
+    ("m", "s", "mm*s^-1"),
+    ("kg", "l", "mm^-3*kg"),
+    ("N", "kN", ""),
+];
+
+fn quotient_is(left: &str, right: &str, text: &str) -> bool {
+    let (Some((_, left)), Some((_, right))) = (unit_named(left), unit_named(right)) else {
+        return false;
+    };
+    match left.over(&right) {
+        Ok(unit) => is_written_as(&unit, text),
+        Err(ExponentRange) => false,
+    }
+}
+
+#[test]
+fn units_are_multiplied(rt: HostRuntime) {
+    for (left, right, text) in QUOTIENTS.iter() {
+        assert!(rt; quotient_is(left, right, text));
+    }
+    let Some((_, volume)) = unit_named("l") else {
+        assert!(rt; false);
+        return;
+    };
+    assert!(rt;
+        volume
+            .power(2)
+            .is_ok_and(|unit| is_written_as(&unit, "mm^6"))
+    );
+    assert!(rt; volume.power(-3).is_err());
+    assert!(rt;
+        volume
+            .times(&volume)
+            .is_ok_and(|unit| unit.times(&volume).is_err())
+    );
+}
