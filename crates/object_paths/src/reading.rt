@@ -136,7 +136,7 @@ fn read_plain(alloc: Global, parts: &[&str]) -> Result<Path, PathFault>
 {
     match parts {
         [] => Err(PathFault::BadPath),
-        [text] if is_word(text) => Err(PathFault::BadPath),
+        [text] if is_word(text) && Name::is_name(text) => Err(PathFault::BadPath),
         [text] => with_owner(Owner::Here, read_single(alloc, text)),
         [name, group, part] => {
             with_owner(Owner::Here, read_component_slot(alloc, name, group, part))
