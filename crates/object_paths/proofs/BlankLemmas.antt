@@ -1,8 +1,8 @@
 -- Blanks at the ends of a text, taken off one by one.
-use Rattle.std.proofs.Common.{◌≡◌, ◌≢◌, ℕ, ◌+◌, ◌<◌, List, [], ◌∷◌, ◌++◌, Bool, true, false, cond, ◌||◌, ◌==◌, reverse, length, Option, Some, None, Bor, refl, sym, ap, subst, ◌∙◌, ⊎_elim, arith}
+use Rattle.std.proofs.Common.{◌≡◌, ◌≢◌, ℕ, List, [], ◌∷◌, ◌++◌, true, false, cond, ◌==◌, reverse, Option, Some, None, Bor, refl, sym, ap, subst, ◌∙◌, ⊎_elim}
 use Rattle.std.specs.Option.{MatchOption}
 use Rattle.std.proofs.lemmas.Bool.{or_cases, eqb-true}
-use Rattle.std.proofs.lemmas.List.{reverse-append, reverse-reverse, length-append}
+use Rattle.std.proofs.lemmas.List.{reverse-append, reverse-reverse}
 use Rattle.object_paths.specs.PathParts.{is_blank, after_blanks}
 
 -- a text that does not begin with this byte, or with that one, begins with no blank

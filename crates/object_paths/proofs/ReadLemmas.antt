@@ -1,5 +1,5 @@
 -- The marks of a label, found by their bytes.
-use Rattle.std.proofs.Common.{◌≡◌, ℕ, zero, suc, ◌+◌, ◌<◌, ◌≤◌, List, [], ◌∷◌, ◌++◌, Bool, true, false, cond, ◌&&◌, ◌==◌, length, take, drop, Option, Some, None, Bor, refl, sym, ap, subst, ◌∙◌, arith}
+use Rattle.std.proofs.Common.{◌≡◌, ℕ, zero, suc, ◌+◌, ◌<◌, ◌≤◌, List, [], ◌∷◌, true, false, cond, ◌&&◌, ◌==◌, length, take, drop, Option, Some, None, Bor, refl, sym, ap, ◌∙◌, arith}
 use Rattle.std.specs.Option.{MatchOption, option_map, option_copied}
 use Rattle.std.specs.Str.Pattern.{LacksTextAt, FindsText, FindsTextPrefix}
 use Rattle.std.proofs.lemmas.Bool.{and_parts, eqb-true}
@@ -33,18 +33,20 @@ until_closing-none : (s : List ℕ) → ((i : ℕ) → i ≤ length s → LacksT
 until_closing-none [] lacks = refl
 until_closing-none (a ∷ []) lacks = refl
 until_closing-none (a ∷ b ∷ rest) lacks =
-    elim ((a == 62) && (b == 62)) as (λ t. ((a == 62) && (b == 62)) ≡ t → cond {A = Option (List ℕ × List ℕ)} t (Some ([], rest)) (option_map (λ p. (a ∷ p.0, p.1)) (until_closing (b ∷ rest))) ≡ None)
-    [ true ↦ λ e. absurd (lacks 0 (omega arith) rest (both 62 a b e rest))
-    | false ↦ λ _. ap (option_map (λ (p : List ℕ × List ℕ). (a ∷ p.0, p.1))) (until_closing-none (b ∷ rest) (λ i le r e. lacks (suc i) (omega arith) r e)) ] refl
+    elim ((a == 62) && (b == 62)) as (λ t. ((a == 62) && (b == 62)) ≡ t → cond {A = Option (List ℕ × List ℕ)} t (Some ([], rest)) (option_map (λ p. (a ∷ p.0, p.1)) (until_closing (b ∷ rest))) ≡ None) [
+      | true ↦ λ e. absurd (lacks 0 (omega arith) rest (both 62 a b e rest))
+      | false ↦ λ _. ap (option_map (λ (p : List ℕ × List ℕ). (a ∷ p.0, p.1))) (until_closing-none (b ∷ rest) (λ i le r e. lacks (suc i) (omega arith) r e))
+    ] refl
 
 until_closing-at : (i : ℕ) (s : List ℕ) → ((k : ℕ) → k < i → LacksTextAt (62 ∷ 62 ∷ []) s k) → drop i s ≡ 62 ∷ 62 ∷ drop (suc (suc i)) s → until_closing s ≡ Some (take i s, drop (suc (suc i)) s)
 until_closing-at zero s lacks found = ap until_closing found
 until_closing-at (suc i) [] lacks found = absurd (cc)
 until_closing-at (suc i) (a ∷ []) lacks found = absurd (omega (arith, ap length found, length-drop {A = ℕ} i []))
 until_closing-at (suc i) (a ∷ b ∷ rest) lacks found =
-    elim ((a == 62) && (b == 62)) as (λ t. ((a == 62) && (b == 62)) ≡ t → cond {A = Option (List ℕ × List ℕ)} t (Some ([], rest)) (option_map (λ p. (a ∷ p.0, p.1)) (until_closing (b ∷ rest))) ≡ Some (a ∷ take i (b ∷ rest), drop (suc (suc i)) (b ∷ rest)))
-    [ true ↦ λ e. absurd (lacks 0 (omega arith) rest (both 62 a b e rest))
-    | false ↦ λ _. ap (option_map (λ (p : List ℕ × List ℕ). (a ∷ p.0, p.1))) (until_closing-at i (b ∷ rest) (λ k lt r e. lacks (suc k) (omega arith) r e) found) ] refl
+    elim ((a == 62) && (b == 62)) as (λ t. ((a == 62) && (b == 62)) ≡ t → cond {A = Option (List ℕ × List ℕ)} t (Some ([], rest)) (option_map (λ p. (a ∷ p.0, p.1)) (until_closing (b ∷ rest))) ≡ Some (a ∷ take i (b ∷ rest), drop (suc (suc i)) (b ∷ rest))) [
+      | true ↦ λ e. absurd (lacks 0 (omega arith) rest (both 62 a b e rest))
+      | false ↦ λ _. ap (option_map (λ (p : List ℕ × List ℕ). (a ∷ p.0, p.1))) (until_closing-at i (b ∷ rest) (λ k lt r e. lacks (suc k) (omega arith) r e) found)
+    ] refl
 
 pub until_closing-by : (s : List ℕ) (r : Option (Bor (List ℕ) × Bor (List ℕ))) → MatchOption r (FindsText (62 ∷ 62 ∷ []) s None)
     (λ x. (i : ℕ) × (j : ℕ) × FindsText (62 ∷ 62 ∷ []) s (Some (i, j)) × (x.0.now ≡ take i s) × (x.1.now ≡ drop j s) × (i ≤ j) × (length x.0.now ≡ i) × (length x.1.now + j ≡ length s))

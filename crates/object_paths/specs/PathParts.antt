@@ -75,7 +75,7 @@ fronted_path front rest = if bytes_eq front [] then owned Here (slot_of rest) el
 -- itself
 abbrev pub plain_path : List (List ℕ) → Option Path
 plain_path [] = None
-plain_path (text ∷ []) = if is_word text then None else owned Here (single_slot text)
+plain_path (text ∷ []) = if is_word text && is_name text then None else owned Here (single_slot text)
 plain_path (name ∷ group ∷ part ∷ []) = owned Here (component_slot name group part)
 plain_path (front ∷ rest) = fronted_path front rest
 

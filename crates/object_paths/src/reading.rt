@@ -136,7 +136,7 @@ fn read_plain(alloc: Global, parts: &[&str]) -> Result<Path, PathFault>
 {
     match parts {
         [] => Err(PathFault::BadPath),
-        [text] if is_word(text) => Err(PathFault::BadPath),
+        [text] if is_word(text) && Name::is_name(text) => Err(PathFault::BadPath),
         [text] => with_owner(Owner::Here, read_single(alloc, text)),
         [name, group, part] => {
             with_owner(Owner::Here, read_component_slot(alloc, name, group, part))
@@ -209,5 +209,69 @@ impl Path {
         ensures refused { IsErrOf result PathFault.BadPath → path_of text.now ≡ None }
     {
         read_trimmed(alloc, trimmed(text))
+    }
+}
+
+#[cfg(test)]
+mod tests {
+    use super::*;
+    use std::test::Fail;
+
+    #[test]
+    fn reads_and_writes_paths(rt: HostRuntime) -> Result<(), Fail> {
+        for (text, want) in [
+            ("Width", "Width"),
+            (".Width", "Width"),
+            (" \tBox . Width ", "Box.Width"),
+            ("Box.m", "Box.m"),
+            (".m", ".m"),
+            (" . true", ".true"),
+            ("m.m", "m.m"),
+            ("A1", "A1"),
+            ("$A$1", "$A$1"),
+            ("S.A$1", "S.A$1"),
+            ("Placement.Base.x", "Placement.Base.x"),
+            (".Placement . Rotation . Turn", "Placement.Rotation.Turn"),
+            ("Box.Placement.Base.z", "Box.Placement.Base.z"),
+            ("<<My. box>>.Width", "<<My. box>>.Width"),
+            ("<< b >> . P.Base.y", "<< b >>.P.Base.y"),
+            ("<<<>>.Width", "<<<>>.Width"),
+        ] {
+            let path = Path::read(rt.alloc(), text)?;
+            assert_eq!(rt; path.write(rt.alloc())?.as_str(), want, "{text}");
+            assert!(rt; path.copy(rt.alloc())? == path, "a copy of {text}");
+        }
+        Ok(())
+    }
+
+    #[test]
+    fn refuses_what_is_no_path(rt: HostRuntime) {
+        for text in [
+            "",
+            " ",
+            ".",
+            "m",
+            "true",
+            "9a",
+            "a b",
+            "a..b",
+            "a.",
+            "a.b.c",
+            ".a.b",
+            "a.Base.w",
+            "Base.x.y.z",
+            "a.b.Base.x.y",
+            "$A$0",
+            "<<>>.a",
+            "<<a>>",
+            "<<a>>b",
+            "<<a>.b",
+            "<<a>>>>.b",
+            "<<a>>.",
+            "V.<<a>>",
+        ] {
+            let read = Path::read(rt.alloc(), text);
+            assert!(rt; matches!(read, Err(PathFault::BadPath)), "{text}");
+        }
     }
 }

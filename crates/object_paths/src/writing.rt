@@ -1,4 +1,6 @@
-ghost use Rattle.std.specs.Prelude.{◌≡◌, ◌++◌, IfOk, IsTrue, string_bytes, OnOk};
+ghost use Rattle.std.specs.Prelude.{◌≡◌, ◌++◌, IfOk, IsTrue, string_bytes, OnOk, Some};
+ghost use Rattle.object_paths.specs.Paths.{IsPath};
+ghost use Rattle.object_paths.specs.PathParts.{path_of};
 ghost use Rattle.object_paths.specs.PathTexts.{component_text, slot_text, is_word, needs_dot, owner_text, path_text};
 
 use crate::path::{Owner, Path};
@@ -84,7 +86,8 @@ impl Path {
     /// the object itself has no dot in front, but where its slot is one identifier that alone is
     /// the name of a unit, `true` or `false`: `.m`.
     pub fn write(&self, alloc: Global) -> Result<String, AllocError>
-        ensures { IfOk result (λ text. string_bytes text ≡ path_text self.now) }
+        ensures text { IfOk result (λ text. string_bytes text ≡ path_text self.now) }
+        ensures reads_back { IsPath self.now → path_of (path_text self.now) ≡ Some self.now }
     {
         let mut text = String::new(alloc);
         push_owner(&self.owner, &self.slot, &mut text)?;

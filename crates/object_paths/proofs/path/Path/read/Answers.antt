@@ -1,6 +1,6 @@
-use Rattle.std.proofs.Common.{◌≡◌, sym}
+use Rattle.std.proofs.Common.{sym}
 use Rattle.object_paths.proofs.ReadLemmas.{Reads-found, Reads-refused}
-use Rattle.object_paths.specs.PathParts.{trimmed, opened, path_behind, path_of}
+use Rattle.object_paths.specs.PathParts.{path_of}
 use Rattle.object_paths.proofs.path.Path.read.Goals as goal
 
 pub returns-clause-found : goal.returns-clause-found
