@@ -1,7 +1,7 @@
 // A store in memory, for tests and for callers that keep no files.
-ghost use Rattle.std.specs.Prelude.{◌≡◌, Some, IfSome, OnOk, OnErr};
+ghost use Rattle.std.specs.Prelude.{◌≡◌, Some, OnOk, OnErr};
 ghost use Rattle.std.specs.FinMap as map;
-ghost use Rattle.fc_base.specs.Devices.{HasCause, Fetches, Puts, PutLeaves, fetch_failed, device_failed};
+ghost use Rattle.fc_base.specs.Devices.{HasCause, Fetches, PutLeaves, fetch_failed, device_failed};
 ghost use Rattle.fc_base.specs.Calls.{CountsCall};
 
 use crate::call_counter::CallCounter;
