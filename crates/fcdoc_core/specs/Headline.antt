@@ -1,0 +1,72 @@
+-- What a run leaves, by its status.
+use Rattle.std.specs.Prelude.{◌≡◌, ℕ, Bool, true, false, List, Option}
+use Rattle.std.specs.Io.KnownBytes.{Appends, Keeps}
+use Rattle.fc_base.specs.Devices.{HasRisen}
+use Rattle.fcdoc_core.specs.declared.status.Status.{Status}
+use Rattle.fcdoc_core.specs.declared.status.Status.TheVariants.{Done, SomeRefused, Usage, Missing, DocumentRefused, ScriptRefused, StoreFault, SinkFault, Memory}
+use Rattle.fcdoc_core.specs.Delivery.{GaveLess, GaveFront}
+use Rattle.fcdoc_core.specs.Top.{Top, text_of}
+
+-- a status with which a whole text goes: no device failed, and there was memory
+abbrev pub is_end : Status → Bool
+is_end Done = true
+is_end SomeRefused = true
+is_end Usage = true
+is_end Missing = true
+is_end DocumentRefused = true
+is_end ScriptRefused = true
+is_end StoreFault = false
+is_end SinkFault = false
+is_end Memory = false
+
+-- the status is that of the meaning, and the sink was given its whole text
+pub record GaveAll (t : Top) (status : Status) (before after : Option (List ℕ)) : Type 0 where
+  pub status_is : status ≡ t.status
+  pub text : Appends before after (text_of t)
+
+-- What was written, by the status: all of the defined text with the defined status; behind a fault
+-- of the sink a proper front of it; behind a fault of the store nothing; without memory a front.
+abbrev pub Writes : Top → Status → Option (List ℕ) → Option (List ℕ) → Type 0
+Writes t Done before after = GaveAll t Done before after
+Writes t SomeRefused before after = GaveAll t SomeRefused before after
+Writes t Usage before after = GaveAll t Usage before after
+Writes t Missing before after = GaveAll t Missing before after
+Writes t DocumentRefused before after = GaveAll t DocumentRefused before after
+Writes t ScriptRefused before after = GaveAll t ScriptRefused before after
+Writes t StoreFault before after = Keeps before after
+Writes t SinkFault before after = GaveLess (text_of t) before after
+Writes t Memory before after = GaveFront (text_of t) before after
+
+-- The counts of faults of a store and of a sink, before and after.
+pub record Counts : Type 0 where
+  pub store_before : ℕ
+  pub store_after : ℕ
+  pub sink_before : ℕ
+  pub sink_after : ℕ
+
+-- no count rose
+pub record NoneFailed (c : Counts) : Type 0 where
+  pub store : c.store_after ≡ c.store_before
+  pub sink : c.sink_after ≡ c.sink_before
+
+-- the store failed, and not the sink
+pub record StoreFailed (c : Counts) : Type 0 where
+  pub store : HasRisen c.store_before c.store_after
+  pub sink : c.sink_after ≡ c.sink_before
+
+-- the sink failed, and not the store
+pub record SinkFailed (c : Counts) : Type 0 where
+  pub store : c.store_after ≡ c.store_before
+  pub sink : HasRisen c.sink_before c.sink_after
+
+-- a device is blamed only where its count of faults rose in this run, or stands at its last value
+abbrev pub HasCauses : Status → Counts → Type 0
+HasCauses Done c = NoneFailed c
+HasCauses SomeRefused c = NoneFailed c
+HasCauses Usage c = NoneFailed c
+HasCauses Missing c = NoneFailed c
+HasCauses DocumentRefused c = NoneFailed c
+HasCauses ScriptRefused c = NoneFailed c
+HasCauses StoreFault c = StoreFailed c
+HasCauses SinkFault c = SinkFailed c
+HasCauses Memory c = NoneFailed c

@@ -1,0 +1,9 @@
+pub mod Commands
+pub mod Delivery
+pub mod Headline
+pub mod Machine
+pub mod Plans
+pub mod Replies
+pub mod Scripts
+pub mod Top
+pub mod Words

@@ -1,0 +1,55 @@
+-- What a run is to write once its document and script are there, and why it stops before.
+use Rattle.std.specs.Prelude.{◌≡◌, ℕ, ◌≤◌, List, length, Option, None, Some, Result, Ok, Err, IfSome, string_bytes}
+use Rattle.std.specs.Io.KnownBytes.{Appends}
+use Rattle.fc_base.specs.Devices.{Held, HasRisen}
+use Rattle.fcdoc_core.specs.declared.status.Status.{Status}
+use Rattle.fcdoc_core.specs.declared.plan.Plan.{Plan}
+use Rattle.fcdoc_core.specs.declared.plan.Plan.TheVariants.{Usage, Missing, DocumentRefused, ScriptRefused, Replies}
+use Rattle.fcdoc_core.specs.declared.stop.Stop.{Stop}
+use Rattle.fcdoc_core.specs.declared.stop.Stop.TheVariants.{Store, Sink, Memory}
+use Rattle.std.specs.FinMap.{get}
+use Rattle.fc_base.specs.Devices.{HoldsBeyond}
+use Rattle.fcdoc_core.specs.declared.plan.Found.{Found}
+use Rattle.fcdoc_core.specs.declared.plan.Found.TheVariants.{Bytes, TooLong, Nothing}
+use Rattle.fcdoc_core.specs.Scripts.{most_bytes}
+use Rattle.fcdoc_core.specs.Delivery.{GaveLess, GaveFront}
+use Rattle.fcdoc_core.specs.Machine.{answers}
+use Rattle.fcdoc_core.specs.Top.{Top, text_of, usage, missing, document_refused, script_refused, replies_of}
+
+-- what is to be written: one line, or the replies to a script
+abbrev pub top_of_plan : Plan → Top
+top_of_plan Usage = usage
+top_of_plan (Missing name) = missing (string_bytes name)
+top_of_plan DocumentRefused = document_refused
+top_of_plan ScriptRefused = script_refused
+top_of_plan (Replies document lines) = replies_of (answers (record { now = document }) lines)
+
+-- the plan is the meaning of the words, where the store tells what it holds
+abbrev pub Means : Option Held → (Held → Top) → Plan → Type 0
+Means known meaning plan = IfSome known (λ held. meaning held ≡ top_of_plan plan)
+
+-- how a fetch ended: only the store's failure raised its count
+abbrev pub CountsStop : {X : Type 0} → Result X Stop → ℕ → ℕ → Type 0
+CountsStop (Ok x) before after = after ≡ before
+CountsStop (Err Store) before after = HasRisen before after
+CountsStop (Err Sink) before after = ⊥
+CountsStop (Err Memory) before after = after ≡ before
+
+-- What an attempt to write a text leaves in the sink, and its count of faults, by how it ended: all of
+-- the text was given, and the value answered is right; the sink failed behind a proper front; or no
+-- memory was left behind some front.
+abbrev pub Tells : {X : Type 0} → List ℕ → (X → Type 0) → Result X Stop → Option (List ℕ) → Option (List ℕ) → ℕ → ℕ → Type 0
+Tells text P (Ok x) before after old new = P x × Appends before after text × (new ≡ old)
+Tells text P (Err Store) before after old new = ⊥
+Tells text P (Err Sink) before after old new = GaveLess text before after × HasRisen old new
+Tells text P (Err Memory) before after old new = GaveFront text before after × (new ≡ old)
+
+-- the same of the text of a meaning, with its status
+abbrev pub Speaks : Top → Result Status Stop → Option (List ℕ) → Option (List ℕ) → ℕ → ℕ → Type 0
+Speaks t result before after old new = Tells (text_of t) (λ status. status ≡ t.status) result before after old new
+
+-- what was found under a name is what the store holds there, where that is within the limit
+abbrev pub IsFound : Held → List ℕ → Found → Type 0
+IsFound held name (Bytes v) = (get held name ≡ Some v.items) × (length v.items ≤ most_bytes)
+IsFound held name TooLong = HoldsBeyond held name most_bytes
+IsFound held name Nothing = get held name ≡ None
