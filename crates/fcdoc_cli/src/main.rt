@@ -3,10 +3,9 @@
 
 use fc_base::{FileStore, StdSink};
 use fcdoc_core::{Status, run};
-use std::env;
-use std::rt::Env;
-use std::io;
 use std::process::ExitCode;
+use std::rt::Env;
+use std::{env, io};
 
 /// The words after the program's name.
 fn words_of(rt: &(impl Env + AllocGlobal)) -> io::Result<Vec<String>> {
