@@ -10,6 +10,8 @@ mod reply;
 mod script;
 mod status;
 mod stop;
+#[cfg(test)]
+mod tests;
 mod top;
 
 pub use command::Command;

@@ -1,0 +1,152 @@
+//! Runs over the devices in memory.
+
+ghost use Rattle.std.specs.Prelude.{◌≤◌};
+
+use crate::status::Status;
+use crate::top::run;
+use fc_base::{MemorySink, MemoryStore};
+use std::alloc::{AllocError, Global};
+use std::test::Fail;
+
+/// The VarSet V with the Float a, which is 2.
+const ONE_VARSET: &str =
+    "<?xml version='1.0' encoding='utf-8'?>\n<Document SchemaVersion=\"4\">\n<Objects Count=\"1\">\n<Object type=\"App::VarSet\" name=\"V\" id=\"1\"/>\n</Objects>\n<ObjectData Count=\"1\">\n<Object name=\"V\">\n<Properties Count=\"3\">\n<Property name=\"Label\" type=\"App::PropertyString\">\n<String value=\"V\"/>\n</Property>\n<Property name=\"ExpressionEngine\" type=\"App::PropertyExpressionEngine\">\n<ExpressionEngine count=\"0\"/>\n</Property>\n<Property name=\"a\" type=\"App::PropertyFloat\" group=\"Base\" doc=\"\" ro=\"0\" hide=\"0\">\n<Float value=\"2.000000000\"/>\n</Property>\n</Properties>\n</Object>\n</ObjectData>\n</Document>\n";
+
+const FOUR_GETS: &str = "get V.a\nget V.a\nget V.a\nget V.a\n";
+
+const USAGE: &str = "usage: fcdoc run DOC SCRIPT [--save NAME] | check DOC | make N\n";
+
+/// The words `run D S`.
+fn words(alloc: Global, document: &str) -> Result<Vec<String>, AllocError> {
+    let mut words = Vec::new(alloc);
+    words.push(String::from_str(alloc, "run")?)?;
+    words.push(String::from_str(alloc, document)?)?;
+    words.push(String::from_str(alloc, "S")?)?;
+    Ok(words)
+}
+
+/// No failing call for 0, and else the call of that number.
+fn failing(alloc: Global, call: u64) -> Result<Vec<u64>, AllocError> {
+    let mut calls = Vec::new(alloc);
+    if call > 0 {
+        calls.push(call)?;
+    }
+    Ok(calls)
+}
+
+/// A store that holds the document D, the text X that is none, and the script S.
+fn store(alloc: Global, script: &str, fails: u64) -> Result<MemoryStore, AllocError> {
+    let mut store = MemoryStore::new(alloc, failing(alloc, fails)?);
+    store.place("D", ONE_VARSET.as_bytes())?;
+    store.place("X", b"<Document/>")?;
+    store.place("S", script.as_bytes())?;
+    Ok(store)
+}
+
+/// Whether a run ends with this status and writes this.
+fn ends(
+    alloc: Global,
+    store: &mut MemoryStore,
+    words: &[String],
+    sink: &mut MemorySink,
+    wanted: (Status, &str),
+) -> bool {
+    let status = run(alloc, words, store, sink);
+    status == wanted.0 && sink.bytes() == wanted.1.as_bytes()
+}
+
+fn answers(alloc: Global, script: &str, status: Status, text: &str) -> Result<bool, AllocError> {
+    let mut store = store(alloc, script, 0)?;
+    let mut sink = MemorySink::new(alloc, Vec::new(alloc), 1000);
+    let words = words(alloc, "D")?;
+    Ok(ends(alloc, &mut store, &words, &mut sink, (status, text)))
+}
+
+#[test]
+fn reads_one_value(rt: HostRuntime) -> Result<(), Fail> {
+    assert!(rt; answers(rt.alloc(), "get V.a\n", Status::Done, "= 2\n")?);
+    assert!(rt; answers(rt.alloc(), "", Status::Done, "")?);
+    Ok(())
+}
+
+#[test]
+fn refusals_of_get(rt: HostRuntime) -> Result<(), Fail> {
+    let script = "get V.a\nget V.b\nget W.a\nrecompute\n";
+    let text = "= 2\nrefused 3 NoProperty\nrefused 2 NoObject\nrefused 99 NotBuilt\n";
+    assert!(rt; answers(rt.alloc(), script, Status::SomeRefused, text)?);
+    Ok(())
+}
+
+fn sink_gives(
+    alloc: Global,
+    fails: u64,
+    most: usize,
+    status: Status,
+    text: &str,
+) -> Result<bool, AllocError>
+    requires { 1 ≤ most }
+{
+    let mut store = store(alloc, FOUR_GETS, 0)?;
+    let mut sink = MemorySink::new(alloc, failing(alloc, fails)?, most);
+    let words = words(alloc, "D")?;
+    Ok(ends(alloc, &mut store, &words, &mut sink, (status, text)))
+}
+
+#[test]
+fn sink_takes_one_byte(rt: HostRuntime) -> Result<(), Fail> {
+    assert!(rt; sink_gives(rt.alloc(), 3, 1, Status::SinkFault, "= ")?);
+    assert!(rt; sink_gives(rt.alloc(), 17, 1, Status::Done, "= 2\n= 2\n= 2\n= 2\n")?);
+    assert!(rt; sink_gives(rt.alloc(), 16, 1, Status::SinkFault, "= 2\n= 2\n= 2\n= 2")?);
+    assert!(rt; sink_gives(rt.alloc(), 3, 2, Status::SinkFault, "= 2\n")?);
+    assert!(rt; sink_gives(rt.alloc(), 4, 3, Status::SinkFault, "= 2\n= 2")?);
+    assert!(rt; sink_gives(rt.alloc(), 1, 9, Status::SinkFault, "")?);
+    assert!(rt; sink_gives(rt.alloc(), 3, 9, Status::SinkFault, "= 2\n= 2\n")?);
+    assert!(rt; sink_gives(rt.alloc(), 5, 9, Status::Done, "= 2\n= 2\n= 2\n= 2\n")?);
+    Ok(())
+}
+
+fn store_gives(
+    alloc: Global,
+    fails: u64,
+    document: &str,
+    status: Status,
+    text: &str,
+) -> Result<bool, AllocError> {
+    let mut store = store(alloc, "get V.a\n", fails)?;
+    let mut sink = MemorySink::new(alloc, Vec::new(alloc), 1000);
+    let words = words(alloc, document)?;
+    Ok(ends(alloc, &mut store, &words, &mut sink, (status, text)))
+}
+
+#[test]
+fn store_fails(rt: HostRuntime) -> Result<(), Fail> {
+    assert!(rt; store_gives(rt.alloc(), 1, "D", Status::StoreFault, "")?);
+    assert!(rt; store_gives(rt.alloc(), 2, "D", Status::StoreFault, "")?);
+    assert!(rt; store_gives(rt.alloc(), 3, "D", Status::Done, "= 2\n")?);
+    assert!(rt; store_gives(rt.alloc(), 1, "N", Status::StoreFault, "")?);
+    assert!(rt; store_gives(rt.alloc(), 2, "N", Status::Missing, "missing N\n")?);
+    assert!(rt;
+        store_gives(
+            rt.alloc(),
+            2,
+            "X",
+            Status::DocumentRefused,
+            "document refused NotBuilt\n"
+        )?
+    );
+    Ok(())
+}
+
+#[test]
+fn usage_and_script_refused(rt: HostRuntime) -> Result<(), Fail> {
+    let alloc = rt.alloc();
+    let mut store = store(alloc, "", 0)?;
+    let mut sink = MemorySink::new(alloc, Vec::new(alloc), 1000);
+    assert!(rt; ends(alloc, &mut store, &[], &mut sink, (Status::Usage, USAGE)));
+    store.place("S", b"get V.a\n\xff\n")?;
+    let mut sink = MemorySink::new(alloc, Vec::new(alloc), 1000);
+    let words = words(alloc, "D")?;
+    let refused = (Status::ScriptRefused, "script refused NotBuilt\n");
+    assert!(rt; ends(alloc, &mut store, &words, &mut sink, refused));
+    Ok(())
+}
