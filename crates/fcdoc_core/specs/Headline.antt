@@ -1,7 +1,7 @@
 -- What a run leaves, by its status.
-use Rattle.std.specs.Prelude.{◌≡◌, ℕ, Bool, true, false, List, Option}
+use Rattle.std.specs.Prelude.{◌≡◌, ◌≢◌, ◌⊎◌, ℕ, Bool, true, false, List, Option}
 use Rattle.std.specs.Io.KnownBytes.{Appends, Keeps}
-use Rattle.fc_base.specs.Devices.{HasRisen}
+use Rattle.fc_base.specs.Devices.{HasRisen, last_count}
 use Rattle.fcdoc_core.specs.declared.status.Status.{Status}
 use Rattle.fcdoc_core.specs.declared.status.Status.TheVariants.{Done, SomeRefused, Usage, Missing, DocumentRefused, ScriptRefused, StoreFault, SinkFault, Memory}
 use Rattle.fcdoc_core.specs.Delivery.{GaveLess, GaveFront}
@@ -70,3 +70,14 @@ HasCauses ScriptRefused c = NoneFailed c
 HasCauses StoreFault c = StoreFailed c
 HasCauses SinkFault c = SinkFailed c
 HasCauses Memory c = NoneFailed c
+
+-- neither device failed, and neither has counted to its end
+pub record AreHonest (c : Counts) : Type 0 where
+  pub store : c.store_after ≡ c.store_before
+  pub store_end : c.store_after ≢ last_count
+  pub sink : c.sink_after ≡ c.sink_before
+  pub sink_end : c.sink_after ≢ last_count
+
+-- honest devices get the defined status, or there was no memory
+abbrev pub IsComplete : Top → Status → Counts → Type 0
+IsComplete t status c = AreHonest c → (status ≡ t.status) ⊎ (status ≡ Memory)

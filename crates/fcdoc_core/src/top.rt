@@ -1,5 +1,5 @@
 ghost use Rattle.std.specs.Prelude.{◌≡◌, map, string_bytes, IfSome};
-ghost use Rattle.fcdoc_core.specs.Headline.{Writes, HasCauses};
+ghost use Rattle.fcdoc_core.specs.Headline.{Writes, HasCauses, IsComplete};
 ghost use Rattle.fcdoc_core.specs.Top.{top};
 
 use crate::status::Status;
@@ -17,6 +17,7 @@ pub fn run<S: Store, K: Sink>(alloc: Global, words: &[String], store: &mut S, ou
     ensures headline { IfSome (S.holds store.old) (λ held. Writes (top (map string_bytes words.now) held) result (K.written out.old) (K.written out.new)) }
     ensures store { S.holds store.new ≡ S.holds store.old }
     ensures causes { HasCauses result (record { store_before = S.faults store.old; store_after = S.faults store.new; sink_before = K.faults out.old; sink_after = K.faults out.new }) }
+    ensures complete { IfSome (S.holds store.old) (λ held. IsComplete (top (map string_bytes words.now) held) result (record { store_before = S.faults store.old; store_after = S.faults store.new; sink_before = K.faults out.old; sink_after = K.faults out.new })) }
 {
     let plan = match plan::plan_of_words(alloc, words, store) {
         Ok(plan) => plan,

@@ -69,10 +69,14 @@ fn units_are_named(rt: HostRuntime) {
 }
 
 /// Two units, and the text of their quotient.
-static QUOTIENTS: [(&str, &str, &str); 3] = [
+static QUOTIENTS: [(&str, &str, &str); 7] = [
     ("m", "s", "mm*s^-1"),
     ("kg", "l", "mm^-3*kg"),
     ("N", "kN", ""),
+    ("l", "m", "mm^2"),
+    ("J", "m", "mm*kg*s^-2"),
+    ("J", "l", "mm^-1*kg*s^-2"),
+    ("W", "J", "s^-1"),
 ];
 
 fn quotient_is(left: &str, right: &str, text: &str) -> bool {
@@ -105,4 +109,30 @@ fn units_are_multiplied(rt: HostRuntime) {
             .times(&volume)
             .is_ok_and(|unit| unit.times(&volume).is_err())
     );
+}
+
+/// Two units, and the text of their product.
+static PRODUCTS: [(&str, &str, &str); 5] = [
+    ("mm", "cm", "mm^2"),
+    ("Hz", "m", "mm*s^-1"),
+    ("N", "m", "mm^2*kg*s^-2"),
+    ("Pa", "l", "mm^2*kg*s^-2"),
+    ("Hz", "min", ""),
+];
+
+fn product_is(left: &str, right: &str, text: &str) -> bool {
+    let (Some((_, left)), Some((_, right))) = (unit_named(left), unit_named(right)) else {
+        return false;
+    };
+    match left.times(&right) {
+        Ok(unit) => is_written_as(&unit, text),
+        Err(_) => false,
+    }
+}
+
+#[test]
+fn products_of_units(rt: HostRuntime) {
+    for (left, right, text) in PRODUCTS.iter() {
+        assert!(rt; product_is(left, right, text));
+    }
 }
