@@ -18,3 +18,5 @@ pub mod Grammar
 pub mod Printed
 pub mod Parse
 pub mod Examples
+pub mod SignNumbers
+pub mod Descent
