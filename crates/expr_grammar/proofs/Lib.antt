@@ -1,2 +1,6 @@
 pub mod ReferenceLemmas
 pub mod NumberedLemmas
+pub mod FrontLemmas
+pub mod PathFrontLemmas
+pub mod DescentSound
+pub mod StepsSound

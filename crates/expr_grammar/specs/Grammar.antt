@@ -81,8 +81,12 @@ pub data IsSeparator : s.Sign → Type 0 where
   comma : IsSeparator sign.Comma
 
 -- a numeral and a unit with no exponent: a `^` behind them is the unit's
+abbrev pub IsLoneUnit : List Token → Type 0
+IsLoneUnit (token.Unit name ∷ []) = Unit {0}
+IsLoneUnit _ = ⊥
+
 abbrev pub HoldsExponent : List Token → Type 0
-HoldsExponent (token.Numeral amount number ∷ token.Unit name ∷ []) = Unit {0}
+HoldsExponent (token.Numeral amount number ∷ ts) = IsLoneUnit ts
 HoldsExponent _ = ⊥
 
 mutual
