@@ -4,3 +4,4 @@ pub mod FrontLemmas
 pub mod PathFrontLemmas
 pub mod DescentSound
 pub mod StepsSound
+pub mod DescentShorter
