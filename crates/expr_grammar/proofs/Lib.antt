@@ -5,3 +5,4 @@ pub mod PathFrontLemmas
 pub mod DescentSound
 pub mod StepsSound
 pub mod DescentShorter
+pub mod DescentEquations

@@ -67,7 +67,7 @@ operation_in_front-by : (l : Level) (ts : List Token) (x : Option (s.Sign × Lis
 operation_in_front-by l ts None h = tt
 operation_in_front-by l ts (Some x) h = meant_operation l ts x.1 x.0 h (operation_of l x.0) (operation_of-is l x.0)
 
-operation_in_front-rest : (l : Level) (ts : List Token) → AllParsed (BeginsWithOperation l ts) (operation_in_front l ts)
+pub operation_in_front-rest : (l : Level) (ts : List Token) → AllParsed (BeginsWithOperation l ts) (operation_in_front l ts)
 operation_in_front-rest l ts = operation_in_front-by l ts (sign_in_front ts) (sign_in_front-rest ts)
 
 meant_comparison : (ts rest : List Token) (x : s.Sign) → ts ≡ token.Sign x ∷ rest → (r : Option o.CompareOp) → AllSome (λ op. x ≡ compare_sign op) r
@@ -80,7 +80,7 @@ comparison_in_front-by : (ts : List Token) (x : Option (s.Sign × List Token)) �
 comparison_in_front-by ts None h = tt
 comparison_in_front-by ts (Some x) h = meant_comparison ts x.1 x.0 h (compare_of x.0) (compare_of-is x.0)
 
-comparison_in_front-rest : (ts : List Token) → AllParsed (λ op rest. ts ≡ token.Sign (compare_sign op) ∷ rest) (comparison_in_front ts)
+pub comparison_in_front-rest : (ts : List Token) → AllParsed (λ op rest. ts ≡ token.Sign (compare_sign op) ∷ rest) (comparison_in_front ts)
 comparison_in_front-rest ts = comparison_in_front-by ts (sign_in_front ts) (sign_in_front-rest ts)
 
 -- conditionals and comparisons
@@ -285,7 +285,7 @@ second_corner-rest ts after x e (Some []) h = tt
 second_corner-rest ts after x e (Some (y ∷ rest)) h =
     area_of-rest ts rest x y (e ∙ ap (λ (z : List Token). x ∷ z) h) (corner_of x) (corner_of y) (corner_of-is x) (corner_of-is y)
 
-area_in_front-rest : (ts : List Token) → AllParsed (BeginsWithArea ts) (area_in_front ts)
+pub area_in_front-rest : (ts : List Token) → AllParsed (BeginsWithArea ts) (area_in_front ts)
 area_in_front-rest [] = tt
 area_in_front-rest (x ∷ ts) = second_corner-rest (x ∷ ts) ts x refl (behind_sign sign.Colon ts) (behind_sign-rest sign.Colon ts)
 
