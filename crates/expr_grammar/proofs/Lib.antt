@@ -6,3 +6,4 @@ pub mod DescentSound
 pub mod StepsSound
 pub mod DescentShorter
 pub mod DescentEquations
+pub mod FrontComplete
