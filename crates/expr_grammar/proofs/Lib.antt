@@ -7,3 +7,5 @@ pub mod StepsSound
 pub mod DescentShorter
 pub mod DescentEquations
 pub mod FrontComplete
+pub mod DescentComplete
+pub mod TreesRead
