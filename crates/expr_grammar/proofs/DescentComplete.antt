@@ -1,9 +1,8 @@
 -- What has a tree is read, where nothing follows that goes on with it.
-use Rattle.std.proofs.Common.{◌≡◌, ℕ, ◌≤◌, ℤ, pos, Bool, true, false, List, [], ◌∷◌, ◌++◌, Option, None, Some, refl, sym, ◌∙◌, ap, subst, append_assoc, cond, codes}
-use Rattle.std.specs.Prelude.{◌&&◌, nat_le}
+use Rattle.std.proofs.Common.{◌≡◌, Bool, true, false, List, [], ◌∷◌, ◌++◌, Option, None, Some, refl, sym, ◌∙◌, ap, subst, append_assoc, cond}
+use Rattle.std.specs.Prelude.{nat_le}
 use Rattle.std.proofs.lemmas.Bool.{and_from, le-leb}
-use Rattle.std.proofs.lemmas.List.{append-nil}
-use Rattle.fc_base.specs.Places.{Place, Block, IsBlock, address_of}
+use Rattle.fc_base.specs.Places.{Place, Block, IsBlock}
 use Rattle.object_paths.specs.declared.slot_name.SlotName.{SlotName}
 use Rattle.object_paths.specs.declared.slot_name.SlotName.TheVariants as slot
 use Rattle.object_paths.specs.declared.path.Owner as w
@@ -21,15 +20,15 @@ use Rattle.expr_grammar.specs.declared.sign.Sign as s
 use Rattle.expr_grammar.specs.declared.sign.Sign.TheVariants as sign
 use Rattle.expr_grammar.specs.declared.token.Token.{Token}
 use Rattle.expr_grammar.specs.declared.token.Token.TheVariants as token
-use Rattle.expr_grammar.specs.Descent.{Parsed, ◌>>=◌, behind_sign, sign_in_front, exponent_in_front, text_or_label, with_bracket, behind_separator, second_argument, called, primary_step, unary_step, operation_in_front, comparison_in_front, operands_step, exponents_step, sides, other_arm, arms, level_step, corner_of, argument_ends, is_block, area_of, area_in_front, further_arguments, arguments_behind, arguments_step, parsed, parsed_operands, parsed_exponents, parsed_arguments, whole_readers}
-use Rattle.expr_grammar.specs.Functions.{function_name, function_named, modulo_name, aggregate_name, aggregate_named}
-use Rattle.expr_grammar.specs.Grammar.{Level, expression, comparison, sum, term, unary, powers, primary, binary_sign, compare_sign, binary_level, right_level, IsExponent, IsCorner, named, marked, IsSeparator, semicolon, comma, HoldsExponent, HasTree, a_comparison, a_sum, a_term, a_unary, a_power, a_primary, a_conditional, a_compare, a_binary, a_negate, a_raised, a_numeral, a_measure, a_unit, a_flag, a_text, a_path, in_brackets, a_function, a_modulo, an_aggregate, HasArguments, one_tree, more_trees, one_area, more_areas}
-use Rattle.expr_grammar.specs.PathTokens.{dot, slot_tokens, owner_tokens, IsPathOf, plain, behind_point}
-use Rattle.expr_grammar.specs.Tree.{Tree, literal, unit_one, flag, text, path, negate, binary, power, compare, conditional, function, modulo, aggregate, Arguments, no_more, tree, cells}
+use Rattle.expr_grammar.specs.Descent.{Parsed, ◌>>=◌, behind_sign, sign_in_front, with_bracket, behind_separator, called, primary_step, unary_step, operation_in_front, comparison_in_front, operands_step, exponents_step, sides, arms, corner_of, argument_ends, is_block, area_of, area_in_front, parsed, parsed_operands, parsed_exponents, whole_readers}
+use Rattle.expr_grammar.specs.Functions.{function_name, function_named, aggregate_name}
+use Rattle.expr_grammar.specs.Grammar.{Level, expression, comparison, sum, term, unary, powers, primary, binary_sign, compare_sign, binary_level, right_level, IsCorner, named, marked, IsSeparator, semicolon, comma, HoldsExponent, HasTree, a_comparison, a_sum, a_term, a_unary, a_power, a_primary, a_conditional, a_compare, a_binary, a_negate, a_raised, a_numeral, a_measure, a_unit, a_flag, a_text, a_path, in_brackets, a_function, a_modulo, an_aggregate}
+use Rattle.expr_grammar.specs.PathTokens.{slot_tokens, owner_tokens, IsPathOf, plain, behind_point}
+use Rattle.expr_grammar.specs.Tree.{Tree, flag, path, function}
 use Rattle.expr_grammar.proofs.FrontLemmas.{AllParsed}
 use Rattle.expr_grammar.proofs.StepsSound.{BeginsWithArea, area_in_front-rest}
-use Rattle.expr_grammar.proofs.DescentEquations.{parsed-is, operands-is, exponents-is, arguments-is}
-use Rattle.expr_grammar.proofs.FrontComplete.{exponent-read, begins_with_unit, numeral-read, measure-read, path-read}
+use Rattle.expr_grammar.proofs.DescentEquations.{parsed-is, operands-is, exponents-is}
+use Rattle.expr_grammar.proofs.FrontComplete.{begins_with_unit}
 
 -- What stands behind a phrase does not go on with it.
 
@@ -106,13 +105,13 @@ pub comparison-read : (ts rest : List Token) (t : Tree) → parsed sum ts ≡ pa
 comparison-read ts rest t e ends =
     parsed-is comparison ts
     ∙ (ap (λ (z : Parsed Tree). z >>= λ a r. sides whole_readers a (comparison_in_front r) r) (e ∙ operands-end sum t rest ends.no_sum)
-        ∙ ap (λ (x : Option (o.CompareOp × List Token)). sides whole_readers t x rest) ends.no_comparison)
+    ∙ ap (λ (x : Option (o.CompareOp × List Token)). sides whole_readers t x rest) ends.no_comparison)
 
 pub expression-read : (ts rest : List Token) (t : Tree) → parsed comparison ts ≡ Some (t, rest) → EndsExpression rest → parsed expression ts ≡ Some (t, rest)
 expression-read ts rest t e ends =
     parsed-is expression ts
     ∙ (ap (λ (z : Parsed Tree). z >>= λ c r. arms whole_readers c (behind_sign sign.Question r) r) e
-        ∙ ap (λ (x : Option (List Token)). arms whole_readers t x rest) ends.no_question)
+    ∙ ap (λ (x : Option (List Token)). arms whole_readers t x rest) ends.no_question)
 
 -- a primary alone is an expression
 primary-expression : (ts rest : List Token) (t : Tree) → behind_sign sign.Minus ts ≡ None → parsed primary ts ≡ Some (t, rest) → EndsExpression rest
@@ -122,7 +121,7 @@ primary-expression ts rest t first e ends =
     let m : EndsSum rest = c.ends in
     expression-read ts rest t
     (comparison-read ts rest t
-        (sum-read ts rest t (term-read ts rest t (unary-read ts rest t first (powers-read ts rest t e) m.ends)) m) c) ends
+    (sum-read ts rest t (term-read ts rest t (unary-read ts rest t first (powers-read ts rest t e) m.ends)) m) c) ends
 
 -- signs that end an expression, or an operand
 
@@ -276,7 +275,7 @@ called-aggregate aggregate_op.Max ts = refl
 
 pub called-function : (op : f.FunctionOp) (ts : List Token)
     → primary_step whole_readers (token.Function (function_name op) ∷ token.Sign sign.Open ∷ ts)
-        ≡ with_bracket (parsed expression ts >>= λ a rest. Some (function op a, rest))
+    ≡ with_bracket (parsed expression ts >>= λ a rest. Some (function op a, rest))
 called-function function_op.Abs ts = refl
 called-function function_op.Ceil ts = refl
 called-function function_op.Floor ts = refl
@@ -308,13 +307,13 @@ pub area-read : (area : Block) {x y : Token} → IsCorner x area.from → IsCorn
     → area_in_front (x ∷ token.Sign sign.Colon ∷ y ∷ rest) ≡ Some (area, rest)
 area-read area {x} {y} from to block rest e =
     let corners : is_block area.from area.to ≡ true =
-        and_from (nat_le area.from.column area.to.column) (nat_le area.from.row area.to.row) (le-leb area.from.column area.to.column block.columns)
-        (le-leb area.from.row area.to.row block.rows) in
+    and_from (nat_le area.from.column area.to.column) (nat_le area.from.row area.to.row) (le-leb area.from.column area.to.column block.columns)
+    (le-leb area.from.row area.to.row block.rows) in
     let ends : argument_ends (sign_in_front rest) ≡ true = ap (λ (z : List Token). argument_ends (sign_in_front z)) e.rest_is ∙ e.ends in
     ap (λ (z : Option Place). area_of z (corner_of y) rest) (corner-of from)
     ∙ (ap (λ (z : Option Place). area_of (Some area.from) z rest) (corner-of to)
-        ∙ ap (λ (v : Bool). cond v (Some (area, rest)) None)
-            (and_from (is_block area.from area.to) (argument_ends (sign_in_front rest)) corners ends))
+    ∙ ap (λ (v : Bool). cond v (Some (area, rest)) None)
+    (and_from (is_block area.from area.to) (argument_ends (sign_in_front rest)) corners ends))
 
 -- a corner before a colon is a path, and the colon is left
 corner-expression : {x : Token} {p : Place} → IsCorner x p → (rest : List Token)
@@ -334,11 +333,11 @@ colon_ends after mid x h e = let k : x ≡ sign.Colon = cc in let v : argument_e
 
 -- the rest, and the tree, of what is read
 
-abbrev rest_of : Parsed Tree → List Token
+abbrev pub rest_of : Parsed Tree → List Token
 rest_of None = []
 rest_of (Some x) = x.1
 
-abbrev tree_of : Parsed Tree → Tree
+abbrev pub tree_of : Parsed Tree → Tree
 tree_of None = flag false
 tree_of (Some x) = x.0
 
@@ -347,7 +346,7 @@ no_area-by ts rest t e ends None h = refl
 no_area-by ts rest t e ends (Some x) h =
     let found : (u : Tree) × (parsed expression (h.first ∷ token.Sign sign.Colon ∷ h.last ∷ x.1) ≡ Some (u, token.Sign sign.Colon ∷ h.last ∷ x.1)) = corner-expression h.from (h.last ∷ x.1) in
     let same : Some (found.0, token.Sign sign.Colon ∷ h.last ∷ x.1) ≡ Some (t, rest) =
-        sym found.1 ∙ (ap (λ (z : List Token). parsed expression z) (sym h.split) ∙ e) in
+    sym found.1 ∙ (ap (λ (z : List Token). parsed expression z) (sym h.split) ∙ e) in
     let left : token.Sign sign.Colon ∷ h.last ∷ x.1 ≡ rest = ap rest_of same in
     absurd (colon_ends ends.after (h.last ∷ x.1) ends.sign ends.ends (sym (left ∙ ends.rest_is)))
 

@@ -1,35 +1,24 @@
 -- What the descent reads has the tree that it gives.
-use Rattle.std.proofs.Common.{◌≡◌, ℕ, zero, suc, ◌≤◌, ℤ, pos, Bool, true, false, List, [], ◌∷◌, ◌++◌, Option, None, Some, refl, sym, ◌∙◌, ap, subst, append_assoc, append-nil, cond, codes, IsTrue}
-use Rattle.std.specs.Prelude.{◌&&◌, nat_le}
+use Rattle.std.proofs.Common.{◌≡◌, ℕ, ℤ, Bool, true, false, List, [], ◌∷◌, ◌++◌, Option, None, Some, refl, sym, ◌∙◌, ap, subst, append_assoc, codes, IsTrue}
 use Rattle.std.specs.Str.{bytes_eq}
 use Rattle.std.proofs.lemmas.Slice.Eq.{bytes_eq-Decides}
-use Rattle.std.proofs.lemmas.Bool.{and_parts, leb-true}
-use Rattle.fc_base.specs.Places.{Place, Block, IsBlock, address_of}
 use Rattle.fc_base.specs.Texts.{is_label}
 use Rattle.object_paths.specs.declared.slot_name.SlotName.{SlotName}
 use Rattle.object_paths.specs.declared.slot_name.SlotName.TheVariants as slot
 use Rattle.object_paths.specs.declared.path.Owner as w
 use Rattle.object_paths.specs.declared.path.Owner.TheVariants as owner
 use Rattle.object_paths.specs.declared.path.Path.{Path}
-use Rattle.expr_grammar.specs.declared.operators.BinaryOp as b
-use Rattle.expr_grammar.specs.declared.operators.BinaryOp.TheVariants as binary_op
-use Rattle.expr_grammar.specs.declared.operators.CompareOp as o
-use Rattle.expr_grammar.specs.declared.operators.CompareOp.TheVariants as compare_op
 use Rattle.expr_grammar.specs.declared.operators.FunctionOp as f
-use Rattle.expr_grammar.specs.declared.operators.FunctionOp.TheVariants as function_op
 use Rattle.expr_grammar.specs.declared.operators.AggregateOp as g
-use Rattle.expr_grammar.specs.declared.operators.AggregateOp.TheVariants as aggregate_op
 use Rattle.expr_grammar.specs.declared.sign.Sign as s
 use Rattle.expr_grammar.specs.declared.sign.Sign.TheVariants as sign
 use Rattle.expr_grammar.specs.declared.token.Token.{Token}
 use Rattle.expr_grammar.specs.declared.token.Token.TheVariants as token
-use Rattle.expr_grammar.specs.Descent.{Parsed, ◌>>=◌, Readers, behind_sign, sign_in_front, exponent_in_front, measured, numeral_behind, slot_in_front, named_path, as_tree, slot_of_label, own_slot, text_or_label, closed, with_bracket, separates, behind_separating, behind_separator, second_argument, called, call, signed_primary, primary_step, unary_step, compare_of, sum_of, product_of, operation_of, with_tokens, operation_in_front, comparison_in_front, operands_step, exponents_step, sides, other_arm, arms, level_step, corner_of, argument_ends, is_block, area_of, second_corner, area_in_front, further_arguments, arguments_behind, arguments_step, next_readers, no_readers, readers}
+use Rattle.expr_grammar.specs.Descent.{Parsed, ◌>>=◌, Readers, behind_sign, sign_in_front, exponent_in_front, measured, numeral_behind, slot_in_front, named_path, as_tree, slot_of_label, own_slot, text_or_label, closed, with_bracket, separates, behind_separating, behind_separator, second_argument, called, call, signed_primary, primary_step}
 use Rattle.expr_grammar.specs.Functions.{function_name, function_named, modulo_name, aggregate_name, aggregate_named}
-use Rattle.expr_grammar.specs.Grammar
-use Rattle.expr_grammar.specs.Grammar.{Level, expression, comparison, sum, term, unary, powers, primary, binary_sign, compare_sign, binary_level, right_level, IsExponent, IsUnit, alone, raised, IsCorner, IsSeparator, semicolon, comma, IsLoneUnit, HoldsExponent, HasTree, a_comparison, a_sum, a_term, a_unary, a_power, a_primary, a_conditional, a_compare, a_binary, a_negate, a_raised, a_numeral, a_measure, a_unit, a_flag, a_text, a_path, in_brackets, a_function, a_modulo, an_aggregate, HasArguments, one_tree, more_trees, one_area, more_areas}
-use Rattle.expr_grammar.specs.Grammar.IsCorner.{named, marked}
-use Rattle.expr_grammar.specs.PathTokens.{dot, owner_tokens, slot_tokens, path_tokens, IsPathOf, plain, behind_point}
-use Rattle.expr_grammar.specs.Tree.{Tree, literal, unit_one, flag, text, path, negate, binary, power, compare, conditional, function, modulo, aggregate, Arguments, no_more, tree, cells}
+use Rattle.expr_grammar.specs.Grammar.{Level, expression, powers, primary, alone, raised, IsSeparator, semicolon, comma, HoldsExponent, HasTree, a_numeral, a_measure, a_unit, a_flag, a_text, a_path, in_brackets, a_function, a_modulo, an_aggregate, HasArguments}
+use Rattle.expr_grammar.specs.PathTokens.{dot, owner_tokens, slot_tokens, IsPathOf, plain, behind_point}
+use Rattle.expr_grammar.specs.Tree.{Tree, literal, path, function, modulo, aggregate, Arguments}
 use Rattle.expr_grammar.proofs.FrontLemmas.{AllParsed, AllRests, bind-all, behind, joined, behind_sign-rest, sign_in_front-rest, BeginsWithExponent, exponent_in_front-rest}
 use Rattle.expr_grammar.proofs.PathFrontLemmas.{AllSome, on_cond, BeginsWith, slot_in_front-rest, BeginsWithPath, named_path-rest}
 
@@ -248,13 +237,13 @@ second_argument-sound r so whole ts rest used e d a ha (Some mid) h =
     (λ more i. i)
     (r.of_level expression mid >>= λ b rest. Some (modulo a b, rest))
     (bind-all (ReadsTree expression mid) (Inside (λ zs t. HasTree primary (pre ++ (zs ++ token.Sign sign.Close ∷ [])) t) mid) (r.of_level expression mid)
-        (λ b rest. Some (modulo a b, rest)) (so.of_level expression mid)
-        (λ b rest rb. record {
-          used = rb.used;
-          split = rb.split;
-          kind = subst (λ (z : List Token). HasTree primary (called_by modulo_name ++ z) (modulo a b))
-              (sym (append_assoc used S (rb.used ++ token.Sign sign.Close ∷ []))) (a_modulo h.sign h.separator ha rb.tree);
-        }))
+    (λ b rest. Some (modulo a b, rest)) (so.of_level expression mid)
+    (λ b rest rb. record {
+      used = rb.used;
+      split = rb.split;
+      kind = subst (λ (z : List Token). HasTree primary (called_by modulo_name ++ z) (modulo a b))
+          (sym (append_assoc used S (rb.used ++ token.Sign sign.Close ∷ []))) (a_modulo h.sign h.separator ha rb.tree);
+    }))
 
 called-sound : (r : Readers) → Sound r → (name : List ℕ) (whole ts : List Token) → whole ≡ called_by name ++ ts
     → (x : Option f.FunctionOp) → AllSome (λ op. name ≡ function_name op) x → (v : Bool) → (v ≡ true → name ≡ modulo_name)
@@ -264,19 +253,19 @@ called-sound r so name whole ts e (Some op) hx v hv y hy =
     with_bracket-sound (called_by (function_name op)) whole ts (e ∙ ap (λ (z : List ℕ). called_by z ++ ts) hx) (λ more i. i)
     (r.of_level expression ts >>= λ a rest. Some (function op a, rest))
     (bind-all (ReadsTree expression ts) (Inside (λ zs t. HasTree primary (called_by (function_name op) ++ (zs ++ token.Sign sign.Close ∷ [])) t) ts)
-        (r.of_level expression ts) (λ a rest. Some (function op a, rest)) (so.of_level expression ts)
-        (λ a rest ra. record { used = ra.used; split = ra.split; kind = a_function op ra.tree }))
+    (r.of_level expression ts) (λ a rest. Some (function op a, rest)) (so.of_level expression ts)
+    (λ a rest ra. record { used = ra.used; split = ra.split; kind = a_function op ra.tree }))
 called-sound r so name whole ts e None hx true hv y hy =
     bind-all (ReadsTree expression ts) (ReadsBase whole) (r.of_level expression ts) (λ a rest. second_argument r a (behind_separator rest))
     (so.of_level expression ts)
     (λ a rest ra. second_argument-sound r so whole ts rest ra.used (e ∙ ap (λ (z : List ℕ). called_by z ++ ts) (hv refl)) ra.split a ra.tree
-        (behind_separator rest) (behind_separator-rest rest))
+    (behind_separator rest) (behind_separator-rest rest))
 called-sound r so name whole ts e None hx false hv (Some op) hy =
     with_bracket-sound (called_by (aggregate_name op)) whole ts (e ∙ ap (λ (z : List ℕ). called_by z ++ ts) hy) (λ more i. i)
     (r.arguments ts >>= λ all rest. Some (aggregate op all, rest))
     (bind-all (ReadsArguments ts) (Inside (λ zs t. HasTree primary (called_by (aggregate_name op) ++ (zs ++ token.Sign sign.Close ∷ [])) t) ts)
-        (r.arguments ts) (λ all rest. Some (aggregate op all, rest)) (so.arguments ts)
-        (λ all rest ra. record { used = ra.used; split = ra.split; kind = an_aggregate op ra.arguments }))
+    (r.arguments ts) (λ all rest. Some (aggregate op all, rest)) (so.arguments ts)
+    (λ all rest ra. record { used = ra.used; split = ra.split; kind = an_aggregate op ra.arguments }))
 called-sound r so name whole ts e None hx false hv None hy = tt
 
 call-sound : (r : Readers) → Sound r → (name : List ℕ) (ts : List Token) (x : Option (List Token)) → AllRests (λ rest. ts ≡ token.Sign sign.Open ∷ rest) x
@@ -292,7 +281,7 @@ signed_primary-sound : (r : Readers) → Sound r → (x : s.Sign) (ts : List Tok
 signed_primary-sound r so sign.Open ts =
     with_bracket-sound (token.Sign sign.Open ∷ []) (token.Sign sign.Open ∷ ts) ts refl (λ more i. i) (r.of_level expression ts)
     (weaker (ReadsTree expression ts) (Inside (λ zs t. HasTree primary (token.Sign sign.Open ∷ (zs ++ token.Sign sign.Close ∷ [])) t) ts) (r.of_level expression ts)
-        (λ t rest d. record { used = d.used; split = d.split; kind = in_brackets d.tree }) (so.of_level expression ts))
+    (λ t rest d. record { used = d.used; split = d.split; kind = in_brackets d.tree }) (so.of_level expression ts))
 signed_primary-sound r so sign.Dot ts = own_slot-sound ts
 signed_primary-sound r so _ ts = tt
 

@@ -1,6 +1,5 @@
 -- What stands in front is read: the parts that hold no trees.
-use Rattle.std.proofs.Common.{◌≡◌, ℕ, ◌<◌, ℤ, pos, neg_ℤ, Bool, true, false, List, [], ◌∷◌, ◌++◌, Option, None, Some, refl, sym, ◌∙◌, ap, subst, cond, codes, IsTrue}
-use Rattle.std.specs.Prelude.{nat_lt, if◌then◌else◌}
+use Rattle.std.proofs.Common.{◌≡◌, ℕ, ◌<◌, ℤ, pos, neg_ℤ, Bool, true, false, List, [], ◌∷◌, ◌++◌, Option, None, Some, refl, ◌∙◌, ap, cond, codes, IsTrue}
 use Rattle.std.proofs.lemmas.Bool.{lt-ltb}
 use Rattle.fc_base.specs.Texts.{is_label}
 use Rattle.object_paths.specs.declared.slot_name.Component as c
@@ -14,14 +13,13 @@ use Rattle.expr_grammar.specs.declared.expr.UnitPower.{UnitPower}
 use Rattle.expr_grammar.specs.declared.sign.Sign.TheVariants as sign
 use Rattle.expr_grammar.specs.declared.token.Token.{Token}
 use Rattle.expr_grammar.specs.declared.token.Token.TheVariants as token
-use Rattle.expr_grammar.specs.Descent.{Parsed, ◌>>=◌, Readers, behind_sign, digits_in_front, signed_exponent, exponent_in_front, measured, numeral_behind, component_of_group, name_in_front, part_of, slot_behind_name, slot_in_front, behind_third_name, behind_second_name, named_path, as_tree, own_slot, text_or_label, primary_step}
+use Rattle.expr_grammar.specs.Descent.{Parsed, ◌>>=◌, Readers, behind_sign, digits_in_front, exponent_in_front, measured, numeral_behind, component_of_group, name_in_front, slot_behind_name, slot_in_front, behind_third_name, behind_second_name, named_path, as_tree, primary_step}
 use Rattle.expr_grammar.specs.Grammar.{IsExponent, IsUnit, HoldsExponent}
 use Rattle.expr_grammar.specs.Grammar.IsExponent.{plain, negative}
 use Rattle.expr_grammar.specs.Grammar.IsUnit.{alone, raised}
-use Rattle.expr_grammar.specs.PathTokens.{dot, component_tokens, owner_tokens, slot_tokens, path_tokens, CanOwn, IsPathOf}
-
+use Rattle.expr_grammar.specs.PathTokens.{dot, component_tokens, owner_tokens, slot_tokens, CanOwn, IsPathOf}
 use Rattle.expr_grammar.specs.PathTokens.{plain as spelled, behind_point}
-use Rattle.expr_grammar.specs.Tree.{Tree, literal, path}
+use Rattle.expr_grammar.specs.Tree.{literal, path}
 
 -- exponents
 
@@ -81,7 +79,7 @@ slot-read (slot.Marked place) rest h = refl
 
 own_component-read : (name : List ℕ) (part : c.Component) (rest : List Token) → behind_sign sign.Dot rest ≡ None
     → named_path name (Some (component_tokens part ++ rest)) (dot ∷ (component_tokens part ++ rest))
-        ≡ Some (record { owner = owner.Here; slot = slot.Component name part }, rest)
+    ≡ Some (record { owner = owner.Here; slot = slot.Component name part }, rest)
 own_component-read name X rest h = ap (λ (x : Option (List Token)). behind_third_name name (codes "Base") (codes "x") x rest) h
 own_component-read name Y rest h = ap (λ (x : Option (List Token)). behind_third_name name (codes "Base") (codes "y") x rest) h
 own_component-read name Z rest h = ap (λ (x : Option (List Token)). behind_third_name name (codes "Base") (codes "z") x rest) h
@@ -89,7 +87,7 @@ own_component-read name Turn rest h = ap (λ (x : Option (List Token)). behind_t
 
 owned_component-read : (name second : List ℕ) (part : c.Component) (rest : List Token)
     → named_path name (Some (token.Name second ∷ dot ∷ (component_tokens part ++ rest))) (dot ∷ token.Name second ∷ dot ∷ (component_tokens part ++ rest))
-        ≡ Some (record { owner = owner.ByName name; slot = slot.Component second part }, rest)
+    ≡ Some (record { owner = owner.ByName name; slot = slot.Component second part }, rest)
 owned_component-read name second X rest = refl
 owned_component-read name second Y rest = refl
 owned_component-read name second Z rest = refl

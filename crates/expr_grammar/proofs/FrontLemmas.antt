@@ -1,15 +1,7 @@
 -- What the descent reads has the tree that it gives: the parts that hold no trees.
-use Rattle.std.proofs.Common.{◌≡◌, ℕ, ◌+◌, ◌<◌, ◌≤◌, ℤ, pos, neg_ℤ, Bool, true, false, List, [], ◌∷◌, ◌++◌, Option, None, Some, refl, sym, ◌∙◌, ap, subst, append_assoc, arith, cond, IsTrue}
+use Rattle.std.proofs.Common.{◌≡◌, ℕ, ◌<◌, ℤ, pos, neg_ℤ, true, false, List, [], ◌∷◌, ◌++◌, Option, None, Some, refl, sym, ◌∙◌, ap, append_assoc, cond}
 use Rattle.std.specs.Prelude.{nat_lt, ◌==◌, if◌then◌else◌}
-use Rattle.std.specs.Option.{option_map}
 use Rattle.std.proofs.lemmas.Bool.{eqb-true, ltb-true}
-use Rattle.fc_base.specs.Texts.{is_label}
-use Rattle.object_paths.specs.PathParts.{component_of}
-use Rattle.object_paths.specs.declared.slot_name.Component as c
-use Rattle.object_paths.specs.declared.slot_name.SlotName.{SlotName}
-use Rattle.object_paths.specs.declared.slot_name.SlotName.TheVariants as slot
-use Rattle.object_paths.specs.declared.path.Owner.TheVariants as owner
-use Rattle.object_paths.specs.declared.path.Path.{Path}
 use Rattle.expr_grammar.specs.declared.sign.Sign as s
 use Rattle.expr_grammar.specs.declared.sign.Sign.TheVariants as sign
 use Rattle.expr_grammar.specs.declared.token.Token.{Token}

@@ -9,3 +9,4 @@ pub mod DescentEquations
 pub mod FrontComplete
 pub mod DescentComplete
 pub mod TreesRead
+pub mod OneTree

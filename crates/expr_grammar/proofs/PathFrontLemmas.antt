@@ -1,24 +1,21 @@
 -- The paths that the descent reads have the tokens in front.
-use Rattle.std.proofs.Common.{◌≡◌, ℕ, Bool, true, false, List, [], ◌∷◌, ◌++◌, Option, None, Some, refl, sym, ◌∙◌, ap, subst, cond, codes, IsTrue}
+use Rattle.std.proofs.Common.{◌≡◌, ℕ, Bool, true, false, List, [], ◌∷◌, ◌++◌, Option, None, Some, refl, sym, ◌∙◌, ap, cond, codes}
 use Rattle.std.specs.Prelude.{◌&&◌}
 use Rattle.std.specs.Option.{option_map}
 use Rattle.std.specs.Str.{bytes_eq}
 use Rattle.std.proofs.lemmas.Slice.Eq.{bytes_eq-Decides}
 use Rattle.std.proofs.lemmas.Bool.{and_parts}
-use Rattle.fc_base.specs.Texts.{is_label}
 use Rattle.object_paths.specs.PathParts.{component_of}
 use Rattle.object_paths.specs.declared.slot_name.Component as c
-use Rattle.object_paths.specs.declared.slot_name.Component.TheVariants.{X, Y, Z, Turn}
-use Rattle.object_paths.specs.declared.slot_name.SlotName.{SlotName}
 use Rattle.object_paths.specs.declared.slot_name.SlotName.TheVariants as slot
 use Rattle.object_paths.specs.declared.path.Owner.TheVariants as owner
 use Rattle.object_paths.specs.declared.path.Path.{Path}
 use Rattle.expr_grammar.specs.declared.sign.Sign.TheVariants as sign
 use Rattle.expr_grammar.specs.declared.token.Token.{Token}
 use Rattle.expr_grammar.specs.declared.token.Token.TheVariants as token
-use Rattle.expr_grammar.specs.Descent.{Parsed, ◌>>=◌, behind_sign, name_in_front, part_of, part_behind, component_of_group, slot_behind_name, slot_in_front, behind_third_name, third_name, behind_second_name, behind_owner, named_path}
-use Rattle.expr_grammar.specs.PathTokens.{dot, component_tokens, slot_tokens, path_tokens, IsPathOf, plain, behind_point}
-use Rattle.expr_grammar.proofs.FrontLemmas.{AllParsed, AllRests, bind-all, behind, joined, behind_sign-rest, name_in_front-rest}
+use Rattle.expr_grammar.specs.Descent.{behind_sign, name_in_front, part_of, part_behind, component_of_group, slot_behind_name, slot_in_front, behind_third_name, third_name, behind_second_name, behind_owner, named_path}
+use Rattle.expr_grammar.specs.PathTokens.{dot, component_tokens, slot_tokens, IsPathOf, plain}
+use Rattle.expr_grammar.proofs.FrontLemmas.{AllParsed, AllRests, bind-all, behind_sign-rest, name_in_front-rest}
 
 -- what holds of the value, where there is one
 abbrev pub AllSome : {A : Type 0} → (A → Type 0) → Option A → Type 0
@@ -45,12 +42,12 @@ pub component_of-names : (group part : List ℕ) → AllSome (IsNamed group part
 component_of-names group part =
     on_cond (AllSome (IsNamed group part)) (bytes_eq group (codes "Base")) _ _
     (λ g. on_cond (AllSome (IsNamed group part)) (bytes_eq part (codes "x")) _ _ (λ x. names group part (codes "Base") (codes "x") g x)
-        (λ _. on_cond (AllSome (IsNamed group part)) (bytes_eq part (codes "y")) _ _ (λ y. names group part (codes "Base") (codes "y") g y)
-            (λ _. on_cond (AllSome (IsNamed group part)) (bytes_eq part (codes "z")) _ _ (λ z. names group part (codes "Base") (codes "z") g z) (λ _. tt))))
+    (λ _. on_cond (AllSome (IsNamed group part)) (bytes_eq part (codes "y")) _ _ (λ y. names group part (codes "Base") (codes "y") g y)
+    (λ _. on_cond (AllSome (IsNamed group part)) (bytes_eq part (codes "z")) _ _ (λ z. names group part (codes "Base") (codes "z") g z) (λ _. tt))))
     (λ _. on_cond (AllSome (IsNamed group part)) (bytes_eq group (codes "Rotation") && bytes_eq part (codes "Turn")) _ _
-        (λ both. let parts = and_parts (bytes_eq group (codes "Rotation")) (bytes_eq part (codes "Turn")) both in
-            names group part (codes "Rotation") (codes "Turn") parts.0 parts.1)
-        (λ _. tt))
+    (λ both. let parts = and_parts (bytes_eq group (codes "Rotation")) (bytes_eq part (codes "Turn")) both in
+    names group part (codes "Rotation") (codes "Turn") parts.0 parts.1)
+    (λ _. tt))
 
 -- something in front that is made of these tokens
 abbrev pub BeginsWith : {A : Type 0} → (A → List Token) → List Token → A → List Token → Type 0

@@ -1,19 +1,17 @@
 -- A step of the descent over sound readers is sound.
-use Rattle.std.proofs.Common.{◌≡◌, ℕ, zero, suc, ◌≤◌, ℤ, pos, Bool, true, false, List, [], ◌∷◌, ◌++◌, Option, None, Some, refl, sym, ◌∙◌, ap, subst, append_assoc, cond}
+use Rattle.std.proofs.Common.{◌≡◌, ℕ, zero, suc, List, [], ◌∷◌, ◌++◌, Option, None, Some, refl, sym, ◌∙◌, ap, subst, append_assoc}
 use Rattle.std.specs.Prelude.{◌&&◌, nat_le}
 use Rattle.std.proofs.lemmas.Bool.{and_parts, leb-true}
 use Rattle.std.proofs.lemmas.List.{append-nil}
 use Rattle.fc_base.specs.Places.{Place, Block, IsBlock, address_of}
 use Rattle.expr_grammar.specs.declared.operators.BinaryOp as b
-use Rattle.expr_grammar.specs.declared.operators.BinaryOp.TheVariants as binary_op
 use Rattle.expr_grammar.specs.declared.operators.CompareOp as o
-use Rattle.expr_grammar.specs.declared.operators.CompareOp.TheVariants as compare_op
 use Rattle.expr_grammar.specs.declared.sign.Sign as s
 use Rattle.expr_grammar.specs.declared.sign.Sign.TheVariants as sign
 use Rattle.expr_grammar.specs.declared.token.Token.{Token}
 use Rattle.expr_grammar.specs.declared.token.Token.TheVariants as token
-use Rattle.expr_grammar.specs.Descent.{Parsed, ◌>>=◌, Readers, behind_sign, sign_in_front, exponent_in_front, behind_separator, primary_step, unary_step, compare_of, sum_of, product_of, operation_of, with_tokens, operation_in_front, comparison_in_front, operands_step, exponents_step, sides, other_arm, arms, level_step, corner_of, argument_ends, is_block, area_of, second_corner, area_in_front, further_arguments, arguments_behind, arguments_step, next_readers, no_readers, readers}
-use Rattle.expr_grammar.specs.Grammar.{Level, expression, comparison, sum, term, unary, powers, primary, binary_sign, compare_sign, binary_level, right_level, IsExponent, IsCorner, IsSeparator, IsLoneUnit, HoldsExponent, HasTree, a_comparison, a_sum, a_term, a_unary, a_power, a_primary, a_conditional, a_compare, a_binary, a_negate, a_raised, HasArguments, one_tree, more_trees, one_area, more_areas}
+use Rattle.expr_grammar.specs.Descent.{Parsed, Readers, behind_sign, sign_in_front, exponent_in_front, behind_separator, primary_step, unary_step, compare_of, sum_of, product_of, operation_of, with_tokens, operation_in_front, comparison_in_front, operands_step, exponents_step, sides, other_arm, arms, level_step, corner_of, argument_ends, is_block, area_of, second_corner, area_in_front, further_arguments, arguments_behind, arguments_step, next_readers, readers}
+use Rattle.expr_grammar.specs.Grammar.{Level, expression, comparison, sum, term, unary, powers, primary, binary_sign, compare_sign, binary_level, right_level, IsCorner, IsSeparator, HoldsExponent, HasTree, a_comparison, a_sum, a_term, a_unary, a_power, a_primary, a_conditional, a_compare, a_binary, a_negate, a_raised, HasArguments, one_tree, more_trees, one_area, more_areas}
 use Rattle.expr_grammar.specs.Grammar.IsCorner.{named, marked}
 use Rattle.expr_grammar.specs.Tree.{Tree, negate, binary, power, compare, conditional, Arguments, no_more, tree, cells}
 use Rattle.expr_grammar.proofs.FrontLemmas.{AllParsed, AllRests, bind-all, behind, joined, behind_sign-rest, sign_in_front-rest, BeginsWithExponent, exponent_in_front-rest}
@@ -95,7 +93,7 @@ other_arm-sound r so whole front mid xs rest c a e hc d ha (Some ts) h =
       used = front ++ token.Sign sign.Question ∷ (xs ++ token.Sign sign.Colon ∷ rv.used);
       split = joined whole front mid (token.Sign sign.Question ∷ (xs ++ token.Sign sign.Colon ∷ rv.used)) after e
           (joined mid (token.Sign sign.Question ∷ xs) rest (token.Sign sign.Colon ∷ rv.used) after d
-              (behind (token.Sign sign.Colon) rest ts rv.used after h rv.split));
+          (behind (token.Sign sign.Colon) rest ts rv.used after h rv.split));
       tree = a_conditional hc ha rv.tree;
     })
 
@@ -106,7 +104,7 @@ arms-sound r so whole front mid c e hc (Some ts) h =
     bind-all (ReadsTree expression ts) (ReadsTree expression whole) (r.of_level expression ts) (λ a rest. other_arm r c a (behind_sign sign.Colon rest))
     (so.of_level expression ts)
     (λ a rest ra. other_arm-sound r so whole front mid ra.used rest c a e hc (behind (token.Sign sign.Question) mid ts ra.used rest h ra.split) ra.tree
-        (behind_sign sign.Colon rest) (behind_sign-rest sign.Colon rest))
+    (behind_sign sign.Colon rest) (behind_sign-rest sign.Colon rest))
 
 sides-sound : (r : Readers) → Sound r → (whole front mid : List Token) (a : Tree) → whole ≡ front ++ mid → HasTree sum front a
     → (x : Option (o.CompareOp × List Token)) → AllParsed (λ op rest. mid ≡ token.Sign (compare_sign op) ∷ rest) x
@@ -134,15 +132,15 @@ operands_step-sound r so l left ts (Some x) h =
     bind-all (ReadsTree (right_level x.0) x.1) (GoesOn l left ts) (r.of_level (right_level x.0) x.1) (λ v rest. r.operands l (binary x.0 left v) rest)
     (so.of_level (right_level x.0) x.1)
     (λ v rest rv. weaker (GoesOn l (binary x.0 left v) rest) (GoesOn l left ts) (r.operands l (binary x.0 left v) rest)
-        (λ t after d. record {
-          used = S ∷ (rv.used ++ d.used);
-          split = behind S ts x.1 (rv.used ++ d.used) after h.split (joined x.1 rv.used rest d.used after rv.split d.split);
-          tree = λ front has. subst (λ (z : List Token). HasTree l z t) (append_assoc front (S ∷ rv.used) d.used)
-              (d.tree (front ++ S ∷ rv.used)
-                  (subst (λ (m : Level). HasTree m (front ++ S ∷ rv.used) (binary x.0 left v)) h.level
-                      (a_binary x.0 (subst (λ (m : Level). HasTree m front left) (sym h.level) has) rv.tree)));
-        })
-        (so.operands l (binary x.0 left v) rest))
+    (λ t after d. record {
+      used = S ∷ (rv.used ++ d.used);
+      split = behind S ts x.1 (rv.used ++ d.used) after h.split (joined x.1 rv.used rest d.used after rv.split d.split);
+      tree = λ front has. subst (λ (z : List Token). HasTree l z t) (append_assoc front (S ∷ rv.used) d.used)
+          (d.tree (front ++ S ∷ rv.used)
+          (subst (λ (m : Level). HasTree m (front ++ S ∷ rv.used) (binary x.0 left v)) h.level
+          (a_binary x.0 (subst (λ (m : Level). HasTree m front left) (sym h.level) has) rv.tree)));
+    })
+    (so.operands l (binary x.0 left v) rest))
 
 raised-not_held : (front ns : List Token) → HoldsExponent (front ++ token.Sign sign.Caret ∷ ns) → ⊥
 raised-not_held [] ns h = h
@@ -175,14 +173,14 @@ exponents_step-sound r so base ts (Some mid) e h =
     let S : Token = token.Sign sign.Caret in
     bind-all (BeginsWithExponent mid) (RaisesBase base ts) (exponent_in_front mid) (λ n rest. r.exponents (power base n) rest) (exponent_in_front-rest mid)
     (λ n rest rn. weaker (RaisesBase (power base n) rest) (RaisesBase base ts) (r.exponents (power base n) rest)
-        (λ t after d. record {
-          used = S ∷ (rn.used ++ d.used);
-          split = behind S ts mid (rn.used ++ d.used) after h (joined mid rn.used rest d.used after rn.split d.split);
-          tree = λ front has held. subst (λ (z : List Token). HasTree powers z t) (append_assoc front (S ∷ rn.used) d.used)
-              (d.tree (front ++ S ∷ rn.used) (a_raised has (λ i. absurd (let k : None ≡ Some mid = sym (held i) ∙ e in cc)) rn.exponent)
-                  (λ i. absurd (raised-not_held front rn.used i)));
-        })
-        (so.exponents (power base n) rest))
+    (λ t after d. record {
+      used = S ∷ (rn.used ++ d.used);
+      split = behind S ts mid (rn.used ++ d.used) after h (joined mid rn.used rest d.used after rn.split d.split);
+      tree = λ front has held. subst (λ (z : List Token). HasTree powers z t) (append_assoc front (S ∷ rn.used) d.used)
+          (d.tree (front ++ S ∷ rn.used) (a_raised has (λ i. absurd (let k : None ≡ Some mid = sym (held i) ∙ e in cc)) rn.exponent)
+          (λ i. absurd (raised-not_held front rn.used i)));
+    })
+    (so.exponents (power base n) rest))
 
 unary_step-sound : (r : Readers) → Sound r → (ts : List Token) (x : Option (List Token)) → AllRests (λ rest. ts ≡ token.Sign sign.Minus ∷ rest) x
     → AllParsed (ReadsTree unary ts) (unary_step r x ts)
@@ -227,12 +225,12 @@ level_step-sound r so unary ts = unary_step-sound r so ts (behind_sign sign.Minu
 level_step-sound r so powers ts =
     bind-all (ReadsBase ts) (ReadsTree powers ts) (r.of_level primary ts) (λ a rest. r.exponents a rest) (so.base ts)
     (λ a rest d. weaker (RaisesBase a rest) (ReadsTree powers ts) (r.exponents a rest)
-        (λ t after g. record {
-          used = d.used ++ g.used;
-          split = joined ts d.used rest g.used after d.split g.split;
-          tree = g.tree d.used (a_primary d.tree) d.held;
-        })
-        (so.exponents a rest))
+    (λ t after g. record {
+      used = d.used ++ g.used;
+      split = joined ts d.used rest g.used after d.split g.split;
+      tree = g.tree d.used (a_primary d.tree) d.held;
+    })
+    (so.exponents a rest))
 level_step-sound r so primary ts = base-of_level ts (primary_step r ts) (primary_step-sound r so ts)
 
 -- arguments
@@ -267,15 +265,15 @@ area_of-rest ts rest x y e (Some p) None hp hq = tt
 area_of-rest ts rest x y e (Some p) (Some q) hp hq =
     on_cond (AllParsed (BeginsWithArea ts)) (is_block p q && argument_ends (sign_in_front rest)) (Some (record { from = p; to = q }, rest)) None
     (λ h. let parts = and_parts (is_block p q) (argument_ends (sign_in_front rest)) h in
-        let corners = and_parts (nat_le p.column q.column) (nat_le p.row q.row) parts.0 in
-        record {
-          first = x;
-          last = y;
-          split = e;
-          from = hp;
-          to = hq;
-          block = record { columns = leb-true p.column q.column corners.0; rows = leb-true p.row q.row corners.1 };
-        })
+    let corners = and_parts (nat_le p.column q.column) (nat_le p.row q.row) parts.0 in
+    record {
+      first = x;
+      last = y;
+      split = e;
+      from = hp;
+      to = hq;
+      block = record { columns = leb-true p.column q.column corners.0; rows = leb-true p.row q.row corners.1 };
+    })
     (λ _. tt)
 
 second_corner-rest : (ts after : List Token) (x : Token) → ts ≡ x ∷ after → (r : Option (List Token)) → AllRests (λ rest. after ≡ token.Sign sign.Colon ∷ rest) r
@@ -310,7 +308,7 @@ arguments_step-sound : (r : Readers) → Sound r → (ts : List Token) (x : Pars
 arguments_step-sound r so ts None h =
     bind-all (ReadsTree expression ts) (ReadsArguments ts) (r.of_level expression ts) (λ t rest. arguments_behind r (tree t) rest) (so.of_level expression ts)
     (λ t rest d. further_arguments-sound r so ts d.used rest (tree t) d.split
-        (record { one = one_tree d.tree; more = λ x sep us all ha. more_trees x sep d.tree ha }) (behind_separator rest) (behind_separator-rest rest))
+    (record { one = one_tree d.tree; more = λ x sep us all ha. more_trees x sep d.tree ha }) (behind_separator rest) (behind_separator-rest rest))
 arguments_step-sound r so ts (Some x) h =
     further_arguments-sound r so ts (h.first ∷ token.Sign sign.Colon ∷ h.last ∷ []) x.1 (cells x.0) h.split
     (record {

@@ -1,21 +1,19 @@
 -- The descent gives each tree of the grammar, and so a list of tokens has one tree at most.
-use Rattle.std.proofs.Common.{◌≡◌, ℕ, ℤ, pos, Bool, true, false, List, [], ◌∷◌, ◌++◌, Option, None, Some, refl, sym, ◌∙◌, ap, subst, append_assoc, cond, codes}
-use Rattle.std.proofs.lemmas.List.{append-nil}
-use Rattle.fc_base.specs.Places.{Place, Block, IsBlock}
+use Rattle.std.proofs.Common.{◌≡◌, ℤ, List, [], ◌∷◌, ◌++◌, Option, None, Some, refl, sym, ◌∙◌, ap, append_assoc}
+use Rattle.fc_base.specs.Places.{Block}
 use Rattle.expr_grammar.specs.declared.operators.BinaryOp as b
 use Rattle.expr_grammar.specs.declared.operators.CompareOp as o
 use Rattle.expr_grammar.specs.declared.operators.CompareOp.TheVariants as compare_op
-use Rattle.expr_grammar.specs.declared.sign.Sign as s
 use Rattle.expr_grammar.specs.declared.sign.Sign.TheVariants as sign
 use Rattle.expr_grammar.specs.declared.token.Token.{Token}
 use Rattle.expr_grammar.specs.declared.token.Token.TheVariants as token
-use Rattle.expr_grammar.specs.Descent.{Parsed, ◌>>=◌, behind_sign, exponent_in_front, text_or_label, closed, with_bracket, behind_separator, second_argument, called, primary_step, unary_step, operation_in_front, comparison_in_front, operands_step, exponents_step, sides, other_arm, arms, level_step, area_in_front, further_arguments, arguments_behind, arguments_step, parsed, parsed_operands, parsed_exponents, parsed_arguments, whole_readers}
+use Rattle.expr_grammar.specs.Descent.{Parsed, ◌>>=◌, behind_sign, text_or_label, with_bracket, behind_separator, second_argument, operation_in_front, comparison_in_front, operands_step, sides, other_arm, arms, further_arguments, arguments_behind, arguments_step, parsed, parsed_operands, parsed_exponents, parsed_arguments, whole_readers}
 use Rattle.expr_grammar.specs.Functions.{function_name, modulo_name, aggregate_name}
-use Rattle.expr_grammar.specs.Grammar.{Level, expression, comparison, sum, term, unary, powers, primary, binary_sign, compare_sign, binary_level, right_level, IsExponent, IsCorner, IsSeparator, HoldsExponent, HasTree, a_comparison, a_sum, a_term, a_unary, a_power, a_primary, a_conditional, a_compare, a_binary, a_negate, a_raised, a_numeral, a_measure, a_unit, a_flag, a_text, a_path, in_brackets, a_function, a_modulo, an_aggregate, HasArguments, one_tree, more_trees, one_area, more_areas}
-use Rattle.expr_grammar.specs.Tree.{Tree, literal, path, negate, binary, power, compare, conditional, function, modulo, aggregate, Arguments, no_more, tree, cells}
+use Rattle.expr_grammar.specs.Grammar.{Level, expression, comparison, sum, term, unary, powers, primary, binary_sign, compare_sign, binary_level, right_level, HasTree, a_comparison, a_sum, a_term, a_unary, a_power, a_primary, a_conditional, a_compare, a_binary, a_negate, a_raised, a_numeral, a_measure, a_unit, a_flag, a_text, a_path, in_brackets, a_function, a_modulo, an_aggregate, HasArguments, one_tree, more_trees, one_area, more_areas}
+use Rattle.expr_grammar.specs.Tree.{Tree, negate, binary, power, compare, conditional, function, modulo, aggregate, Arguments, tree, cells}
 use Rattle.expr_grammar.proofs.DescentEquations.{parsed-is, operands-is, exponents-is, arguments-is}
 use Rattle.expr_grammar.proofs.FrontComplete.{exponent-read, numeral-read, measure-read, path-read}
-use Rattle.expr_grammar.proofs.DescentComplete.{EndsPrimary, EndsUnary, EndsSum, EndsComparison, EndsExpression, Ends, closing, ends-primary, unary-read, powers-read, term-read, sum-read, comparison-read, expression-read, operands-end, ends_at_colon, ends_at_close, ends_at_separator, ends_at_question, ends_at_comparison, comparison-in_front, ends_at_operation, operation-in_front, closing-operation, ends_right, right-closing, no_minus, called-aggregate, called-function, separator-in_front, EndsArgument, separator-ends, area-read, no_area}
+use Rattle.expr_grammar.proofs.DescentComplete.{EndsSum, Ends, closing, ends-primary, unary-read, powers-read, term-read, sum-read, comparison-read, expression-read, operands-end, ends_at_colon, ends_at_close, ends_at_separator, ends_at_question, ends_at_comparison, comparison-in_front, ends_at_operation, operation-in_front, closing-operation, ends_right, right-closing, no_minus, called-aggregate, called-function, separator-in_front, EndsArgument, separator-ends, area-read, no_area}
 
 -- lists in another grouping
 
@@ -54,7 +52,7 @@ tree-argument : (ts rest : List Token) (t : Tree) → parsed expression ts ≡ S
 tree-argument ts rest t e ends =
     arguments-is ts
     ∙ (ap (λ (z : Parsed Block). arguments_step whole_readers z ts) (no_area ts rest t e ends)
-        ∙ ap (λ (z : Parsed Tree). z >>= λ a r. arguments_behind whole_readers (tree a) r) e)
+    ∙ ap (λ (z : Parsed Tree). z >>= λ a r. arguments_behind whole_readers (tree a) r) e)
 
 mutual
   pub tree-read : (l : Level) {ts : List Token} {t : Tree} → HasTree l ts t → (rest : List Token) → Ends l ts rest → parsed l (ts ++ rest) ≡ closing l t rest
@@ -71,9 +69,9 @@ mutual
       ap (parsed expression) (grouped_twice xs (token.Sign sign.Question) ys (token.Sign sign.Colon) zs rest)
       ∙ (parsed-is expression (xs ++ token.Sign sign.Question ∷ second)
       ∙ (ap (λ (z : Parsed Tree). z >>= λ a r. arms whole_readers a (behind_sign sign.Question r) r)
-          (tree-read comparison hc (token.Sign sign.Question ∷ second) (ends_at_question second))
+      (tree-read comparison hc (token.Sign sign.Question ∷ second) (ends_at_question second))
       ∙ (ap (λ (z : Parsed Tree). z >>= λ a r. other_arm whole_readers c a (behind_sign sign.Colon r))
-          (tree-read expression hx (token.Sign sign.Colon ∷ third) (ends_at_colon third))
+      (tree-read expression hx (token.Sign sign.Colon ∷ third) (ends_at_colon third))
       ∙ ap (λ (z : Parsed Tree). z >>= λ a r. Some (conditional c x a, r)) (tree-read expression hy rest ends))))
   tree-read _ (a_compare op {xs} {ys} {a = x} {b = y} hx hy) rest ends =
       let second : List Token = ys ++ rest in
@@ -82,10 +80,10 @@ mutual
       ap (parsed comparison) (grouped xs (token.Sign (compare_sign op)) ys rest)
       ∙ (parsed-is comparison (xs ++ sign_and_rest)
       ∙ (ap (λ (z : Parsed Tree). z >>= λ a r. sides whole_readers a (comparison_in_front r) r)
-          (tree-read sum hx sign_and_rest (ends_at_comparison op second) ∙ operands-end sum x sign_and_rest (sum-stops op second))
+      (tree-read sum hx sign_and_rest (ends_at_comparison op second) ∙ operands-end sum x sign_and_rest (sum-stops op second))
       ∙ (ap (λ (z : Option (o.CompareOp × List Token)). sides whole_readers x z sign_and_rest) (comparison-in_front op second)
       ∙ ap (λ (z : Parsed Tree). z >>= λ a r. Some (compare op x a, r))
-          (tree-read sum hy rest inner ∙ operands-end sum y rest ends.no_sum))))
+      (tree-read sum hy rest inner ∙ operands-end sum y rest ends.no_sum))))
   tree-read _ (a_binary op {xs} {ys} {a = x} {b = y} hx hy) rest ends =
       let l : Level = binary_level op in
       let second : List Token = ys ++ rest in
@@ -96,8 +94,8 @@ mutual
       ∙ (operands-is l x sign_and_rest
       ∙ (ap (λ (z : Option (b.BinaryOp × List Token)). operands_step whole_readers l x z sign_and_rest) (operation-in_front op second)
       ∙ (ap (λ (z : Parsed Tree). z >>= λ a r. parsed_operands l (binary op x a) r)
-          (tree-read (right_level op) hy rest (ends_right op (xs ++ token.Sign (binary_sign op) ∷ ys) ys rest ends)
-              ∙ right-closing op (xs ++ token.Sign (binary_sign op) ∷ ys) rest y ends)
+      (tree-read (right_level op) hy rest (ends_right op (xs ++ token.Sign (binary_sign op) ∷ ys) ys rest ends)
+      ∙ right-closing op (xs ++ token.Sign (binary_sign op) ∷ ys) rest y ends)
       ∙ sym (closing-operation op (binary op x y) rest))))))
   tree-read _ (a_negate {ts} {t} h) rest ends =
       parsed-is unary (token.Sign sign.Minus ∷ (ts ++ rest)) ∙ ap (λ (z : Parsed Tree). z >>= λ a r. Some (negate a, r)) (tree-read unary h rest ends)
@@ -118,7 +116,7 @@ mutual
   tree-read _ (in_brackets {ts} {t} h) rest ends =
       parsed-is primary (token.Sign sign.Open ∷ ((ts ++ close ∷ []) ++ rest))
       ∙ (ap (λ (z : List Token). with_bracket (parsed expression z)) (append_assoc ts (close ∷ []) rest)
-          ∙ ap with_bracket (tree-read expression h (close ∷ rest) (ends_at_close rest)))
+      ∙ ap with_bracket (tree-read expression h (close ∷ rest) (ends_at_close rest)))
   tree-read _ (a_function op {ts} {t} h) rest ends =
       parsed-is primary (token.Function (function_name op) ∷ token.Sign sign.Open ∷ ((ts ++ close ∷ []) ++ rest))
       ∙ (called-function op ((ts ++ close ∷ []) ++ rest)
@@ -128,9 +126,9 @@ mutual
       let sign_and_rest : List Token = token.Sign between ∷ inner in
       parsed-is primary (token.Function modulo_name ∷ token.Sign sign.Open ∷ ((xs ++ token.Sign between ∷ (ys ++ close ∷ [])) ++ rest))
       ∙ (ap (λ (z : List Token). parsed expression z >>= λ a r. second_argument whole_readers a (behind_separator r))
-          (append_assoc xs (token.Sign between ∷ (ys ++ close ∷ [])) rest)
+      (append_assoc xs (token.Sign between ∷ (ys ++ close ∷ [])) rest)
       ∙ (ap (λ (z : Parsed Tree). z >>= λ a r. second_argument whole_readers a (behind_separator r))
-          (tree-read expression hx sign_and_rest (ends_at_separator sep inner))
+      (tree-read expression hx sign_and_rest (ends_at_separator sep inner))
       ∙ (ap (λ (z : Option (List Token)). second_argument whole_readers x z) (separator-in_front sep inner)
       ∙ bracketed-read ys rest y (modulo x y) (λ a. modulo x a) (tree-read expression hy (close ∷ rest) (ends_at_close rest)) refl)))
   tree-read _ (an_aggregate op {ts} {all} h) rest ends =
@@ -155,12 +153,12 @@ mutual
   arguments-read (one_area area {x} {y} from to block) rest =
       arguments-is (x ∷ token.Sign sign.Colon ∷ y ∷ close ∷ rest)
       ∙ ap (λ (z : Parsed Block). arguments_step whole_readers z (x ∷ token.Sign sign.Colon ∷ y ∷ close ∷ rest))
-          (area-read area from to block (close ∷ rest) (close-ends rest))
+      (area-read area from to block (close ∷ rest) (close-ends rest))
   arguments-read (more_areas between sep area {x} {y} {us} {all} from to block more) rest =
       let inner : List Token = us ++ close ∷ rest in
       let sign_and_rest : List Token = token.Sign between ∷ inner in
       arguments-is (x ∷ token.Sign sign.Colon ∷ y ∷ sign_and_rest)
       ∙ (ap (λ (z : Parsed Block). arguments_step whole_readers z (x ∷ token.Sign sign.Colon ∷ y ∷ sign_and_rest))
-          (area-read area from to block sign_and_rest (separator-ends sep inner))
+      (area-read area from to block sign_and_rest (separator-ends sep inner))
       ∙ (ap (λ (z : Option (List Token)). further_arguments whole_readers (cells area) z sign_and_rest) (separator-in_front sep inner)
       ∙ ap (λ (z : Parsed Arguments). z >>= λ a r. Some (cells area a, r)) (arguments-read more rest)))

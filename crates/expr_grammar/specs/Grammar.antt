@@ -143,3 +143,7 @@ mutual
     more_areas : (between : s.Sign) → IsSeparator between → (area : Block) {x y : Token} {us : List Token} {all : Arguments}
         → IsCorner x area.from → IsCorner y area.to → IsBlock area → HasArguments us all
         → HasArguments (x ∷ token.Sign sign.Colon ∷ y ∷ token.Sign between ∷ us) (cells area all)
+
+-- the tokens have one tree at a level, at most
+abbrev pub HaveOneTree : Type 0
+HaveOneTree = (l : Level) (ts : List Token) (t u : Tree) → HasTree l ts t → HasTree l ts u → t ≡ u

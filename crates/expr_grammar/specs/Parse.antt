@@ -1,7 +1,6 @@
 -- Which expression a text is, and else where it goes wrong.
-use Rattle.std.specs.Prelude.{◌≡◌, ℕ, List, length, map, Option, None, Some, Result, Ok, Err}
+use Rattle.std.specs.Prelude.{◌≡◌, ℕ, List, length, map, None, Some, Result, Ok, Err}
 use Rattle.expr_grammar.specs.declared.fault.ExprCause.TheVariants as cause
-use Rattle.expr_grammar.specs.declared.fault.ExprFault.{ExprFault}
 use Rattle.expr_grammar.specs.declared.fault.ExprCause as c
 use Rattle.expr_grammar.specs.declared.fault.ParseFault.{ParseFault}
 use Rattle.expr_grammar.specs.declared.fault.ParseFault.TheVariants as fault

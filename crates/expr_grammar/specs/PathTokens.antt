@@ -1,5 +1,5 @@
 -- The tokens of a path.
-use Rattle.std.specs.Prelude.{◌≡◌, ℕ, List, [], ◌∷◌, ◌++◌, codes, IsTrue}
+use Rattle.std.specs.Prelude.{List, [], ◌∷◌, ◌++◌, codes, IsTrue}
 use Rattle.fc_base.specs.Texts.{is_label}
 use Rattle.object_paths.specs.declared.slot_name.Component as c
 use Rattle.object_paths.specs.declared.slot_name.Component.TheVariants.{X, Y, Z, Turn}
