@@ -16,5 +16,6 @@ pub mod Misplaced
 pub mod PathTokens
 pub mod Grammar
 pub mod Printed
+pub mod TreeTokens
 pub mod Parse
 pub mod Examples
