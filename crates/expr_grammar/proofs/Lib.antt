@@ -1,3 +1,6 @@
 pub mod ReferenceLemmas
 pub mod NumberedLemmas
 pub mod TokenLemmas
+pub mod LongestLemmas
+pub mod AlphabetLemmas
+pub mod ByteLemmas
