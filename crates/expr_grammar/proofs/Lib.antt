@@ -4,3 +4,4 @@ pub mod TokenLemmas
 pub mod LongestLemmas
 pub mod AlphabetLemmas
 pub mod ByteLemmas
+pub mod LexemeLemmas
