@@ -13,7 +13,8 @@ use Rattle.std.proofs.lemmas.Bool.Decides.{nat_tests}
 use Rattle.std.proofs.Math.Seq.{take-append_seam}
 use Rattle.std.proofs.lemmas.List.Sums.{AllPass-from_list_all}
 use Rattle.fc_base.specs.Texts.{begins_name, spells_name, is_name, is_name_byte, is_text_value, has_closing_mark, ends_in_mark}
-use Rattle.fc_base.specs.Places.{Place, address_of}
+use Rattle.fc_base.specs.Places.{Place, IsPlace, address_text, address_of}
+use Rattle.fc_base.proofs.AddressLemmas.{address_of-address_text}
 use Rattle.quantities.specs.Decimals.{is_decimal, decimal_value}
 use Rattle.quantities.specs.declared.decimal_fault.DecimalFault.{DecimalFault}
 use Rattle.quantities.specs.declared.decimal_fault.DecimalFault.TheVariants.{NotDecimal}
@@ -24,9 +25,10 @@ use Rattle.expr_grammar.specs.declared.sign.Sign.TheVariants as sign
 use Rattle.expr_grammar.specs.declared.token.Lexeme.{Lexeme}
 use Rattle.expr_grammar.specs.declared.token.Lexeme.TheVariants.{Numeral, Identifier, Marked, Text, Sign}
 use Rattle.expr_grammar.specs.declared.token.Placed.{Placed}
-use Rattle.expr_grammar.specs.Lexemes.{short_number, numeral_of, spells_word, is_marked_address, identifier_of, marked_of, of_length, numeral_at, word_at, quoted, mark_or_word, lexeme_at, in_front, with_lexeme, lexed_from}
+use Rattle.expr_grammar.specs.Lexemes.{short_number, numeral_of, spells_word, has_mark, is_marked_address, identifier_of, marked_of, of_length, numeral_at, word_at, quoted, mark_or_word, lexeme_at, in_front, with_lexeme, lexed_from}
 use Rattle.expr_grammar.specs.Longest.{longest}
 use Rattle.expr_grammar.specs.Signs.{sign_at, sign_text}
+use Rattle.expr_grammar.proofs.AsciiNames.{dollar_spelled, address_by}
 use Rattle.expr_grammar.proofs.AlphabetLemmas.{begins_past, longest-word, longest-word_le, longest-short}
 use Rattle.expr_grammar.proofs.ByteLemmas.{spells_word-bytes, is_address_byte, is_marked_address-bytes, is_decimal_byte, is_decimal-bytes}
 
@@ -217,3 +219,88 @@ marked_at w rest place address mark i within dollar past =
     ∙ cond-true (nat_lt word (length w)) _ _ (lt-ltb word (length w) shorter)
     ∙ ap (λ t. of_length (length w) (marked_of t)) (take-append_seam w rest)
     ∙ ap (λ o. of_length (length w) (option_map Marked o)) address
+
+-- a marked address, and what neither a name nor an address goes on with
+pub lexes_marked : (p : Place) → IsPlace p → (p.fixed_column || p.fixed_row) ≡ true → (rest : List ℕ) {xs : List Lexeme} → begins_past is_address_byte rest ≡ true
+    → Lexes rest xs → Lexes (address_text p ++ rest) (Marked p ∷ xs)
+lexes_marked p place marked rest {xs} past more =
+    let read : address_of (address_text p) ≡ Some p = address_of-address_text p place in
+    let dollar = dollar_spelled p marked in
+    address_by p place
+    (λ t. address_of t ≡ Some p → is_marked_address t ≡ true → (i : ℕ) → i < length t → get_or t i 0 ≡ 36 → Lexes (t ++ rest) (Marked p ∷ xs))
+    (λ c cs other address mark i within is.
+    let inside : is_address_byte c ≡ true = is_marked_address-bytes (c ∷ cs) mark 0 0 (omega arith) in
+    front cs rest (dark is_address_byte refl c inside refl refl)
+    (begins_word is_address_byte refl c inside (cs ++ rest) other refl ∙ marked_at (c ∷ cs) rest p address mark i within is past) more)
+    read (ap has_mark read ∙ marked) dollar.0 dollar.1.0 dollar.1.1
+
+-- ---- texts
+
+until_closing-text : (t rest : List ℕ) → has_closing_mark t ≡ false → ends_in_mark t ≡ false → until_closing (t ++ 62 ∷ 62 ∷ rest) ≡ Some (t, rest)
+until_closing-text [] rest closing ends = refl
+until_closing-text (a ∷ []) rest closing ends = rw ends
+until_closing-text (a ∷ b ∷ more) rest closing ends =
+    let parts = or_parts ((a == 62) && (b == 62)) (has_closing_mark (b ∷ more)) closing in
+    rw (parts.0, until_closing-text (b ∷ more) rest parts.1 ends)
+
+-- a text between `<<` and `>>`, whatever follows
+pub lexes_text : (t rest : List ℕ) {xs : List Lexeme} → is_text_value t ≡ true → has_closing_mark t ≡ false → ends_in_mark t ≡ false → Lexes rest xs
+    → Lexes ((60 ∷ 60 ∷ (t ++ 62 ∷ 62 ∷ [])) ++ rest) (Text t ∷ xs)
+unfolding lexeme_at
+lexes_text t rest value closing ends more =
+    let size : length t + 4 ≡ suc (suc (length (t ++ 62 ∷ 62 ∷ []))) = omega (arith, length-append t (62 ∷ 62 ∷ [])) in
+    front (60 ∷ (t ++ 62 ∷ 62 ∷ [])) rest refl
+    (ap (λ r. quoted (until_closing r)) (append_assoc t (62 ∷ 62 ∷ []) rest)
+    ∙ ap quoted (until_closing-text t rest closing ends)
+    ∙ cond-true (is_text_value t) _ _ value
+    ∙ ap (λ n. Some (Text t, n)) size)
+    more
+
+-- ---- signs
+
+one_sign : (c : ℕ) (x : s.Sign) → is_blank c ≡ false → is_ascii_digit c ≡ false → (c == 60) ≡ false → sign_text x ≡ c ∷ []
+    → (rest : List ℕ) → sign_at (c ∷ rest) ≡ Some x → {xs : List Lexeme} → Lexes rest xs → Lexes (c ∷ rest) (Sign x ∷ xs)
+one_sign c x dark other angle text rest is more =
+    front [] rest dark (marked_front c rest other angle ∙ ap (λ o. mark_or_word None o (c ∷ rest)) is ∙ ap (λ t. Some (Sign x, length t)) text) more
+
+module _ (rest : List ℕ) {xs : List Lexeme} (more : Lexes rest xs) where
+  pub lexes_open : Lexes (40 ∷ rest) (Sign sign.Open ∷ xs)
+  unfolding sign_at
+  lexes_open = one_sign 40 sign.Open refl refl refl refl rest refl more
+
+  pub lexes_close : Lexes (41 ∷ rest) (Sign sign.Close ∷ xs)
+  unfolding sign_at
+  lexes_close = one_sign 41 sign.Close refl refl refl refl rest refl more
+
+  pub lexes_semicolon : Lexes (59 ∷ rest) (Sign sign.Semicolon ∷ xs)
+  unfolding sign_at
+  lexes_semicolon = one_sign 59 sign.Semicolon refl refl refl refl rest refl more
+
+  pub lexes_colon : Lexes (58 ∷ rest) (Sign sign.Colon ∷ xs)
+  unfolding sign_at
+  lexes_colon = one_sign 58 sign.Colon refl refl refl refl rest refl more
+
+  pub lexes_question : Lexes (63 ∷ rest) (Sign sign.Question ∷ xs)
+  unfolding sign_at
+  lexes_question = one_sign 63 sign.Question refl refl refl refl rest refl more
+
+  pub lexes_caret : Lexes (94 ∷ rest) (Sign sign.Caret ∷ xs)
+  unfolding sign_at
+  lexes_caret = one_sign 94 sign.Caret refl refl refl refl rest refl more
+
+  pub lexes_dot : Lexes (46 ∷ rest) (Sign sign.Dot ∷ xs)
+  unfolding sign_at
+  lexes_dot = one_sign 46 sign.Dot refl refl refl refl rest refl more
+
+  pub lexes_minus : Lexes (45 ∷ rest) (Sign sign.Minus ∷ xs)
+  unfolding sign_at
+  lexes_minus = one_sign 45 sign.Minus refl refl refl refl rest refl more
+
+  -- a sign before a space
+  pub lexes_spaced : (x : s.Sign) → Lexes (sign_text x ++ 32 ∷ rest) (Sign x ∷ xs)
+  unfolding sign_at lexeme_at
+  lexes_spaced sign.Equal = front (61 ∷ []) (32 ∷ rest) refl refl (gap refl more)
+  lexes_spaced sign.NotEqual = front (61 ∷ []) (32 ∷ rest) refl refl (gap refl more)
+  lexes_spaced sign.LessOrEqual = front (61 ∷ []) (32 ∷ rest) refl refl (gap refl more)
+  lexes_spaced sign.GreaterOrEqual = front (61 ∷ []) (32 ∷ rest) refl refl (gap refl more)
+  lexes_spaced x = front [] (32 ∷ rest) refl refl (gap refl more)

@@ -5,3 +5,4 @@ pub mod LongestLemmas
 pub mod AlphabetLemmas
 pub mod ByteLemmas
 pub mod LexemeLemmas
+pub mod AsciiNames
