@@ -6,3 +6,4 @@ pub mod AlphabetLemmas
 pub mod ByteLemmas
 pub mod LexemeLemmas
 pub mod AsciiNames
+pub mod NumeralLemmas
