@@ -7,3 +7,4 @@ pub mod ByteLemmas
 pub mod LexemeLemmas
 pub mod AsciiNames
 pub mod NumeralLemmas
+pub mod ReadingLemmas
