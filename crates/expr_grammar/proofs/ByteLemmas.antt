@@ -1,16 +1,16 @@
 -- The bytes that words, addresses and decimals are made of.
-use Rattle.std.proofs.Common.{◌≡◌, ℕ, ◌+◌, ◌-◌, ◌/◌, ◌%◌, ◌<◌, ◌≤◌, Bool, true, false, cond, not, ◌&&◌, ◌||◌, nat_le, eqb, List, [], ◌∷◌, ◌++◌, length, get_or, Option, Some, None, refl, sym, ap, subst, ◌∙◌, ⊎_elim, arith}
+use Rattle.std.proofs.Common.{◌≡◌, ℕ, ◌+◌, ◌-◌, ◌/◌, ◌%◌, ◌<◌, ◌≤◌, Bool, true, false, not, ◌&&◌, ◌||◌, nat_le, List, [], ◌∷◌, ◌++◌, length, get_or, Option, Some, None, refl, sym, subst, ◌∙◌, ⊎_elim, arith}
 use Rattle.std.specs.Prelude.{◌==◌, if◌then◌else◌}
 use Rattle.std.specs.List.{list_all, AllPass}
 use Rattle.std.specs.Char.{is_ascii_alphanumeric, is_ascii_uppercase, is_ascii_digit}
-use Rattle.std.specs.Str.{chars, IsUtf8, NonePass, NoCharPasses}
+use Rattle.std.specs.Str.{chars, NonePass, NoCharPasses}
 use Rattle.std.specs.Fmt.{decimal}
-use Rattle.std.proofs.lemmas.Bool.{and_parts, and_from, or_cases, or_left, or_right, not_from_true, not-true, not-false, eqb-true, leb-true, leb-false, le-leb, cases_lt, cond_both, cases_Bool, false≢true, both_ways}
+use Rattle.std.proofs.lemmas.Bool.{and_parts, and_from, or_cases, or_left, or_right, not_from_true, not-false, eqb-true, leb-true, leb-false, le-leb, cases_lt, cond_both, false≢true}
 use Rattle.std.proofs.lemmas.Bool.Decides.{nat_tests}
 use Rattle.std.proofs.lemmas.Str.{IsUtf8-from_is_utf8, NoCharPasses-byte, encodes-chars}
 use Rattle.std.proofs.lemmas.List.Folds.{list_all-append}
 use Rattle.std.proofs.lemmas.List.Elements.{All-from_get_or}
-use Rattle.std.proofs.lemmas.List.Sums.{AllPass-from_list_all, list_all-from_AllPass}
+use Rattle.std.proofs.lemmas.List.Sums.{AllPass-from_list_all}
 use Rattle.unicode_ident.specs.Ident.{is_xid_continue}
 use Rattle.unicode_ident.proofs.IdentLemmas.{is_xid_continue-ascii, is_xid_start-is_xid_continue}
 use Rattle.fc_base.specs.Texts.{begins_name, spells_name, is_name_byte}
@@ -131,8 +131,8 @@ parted mark (c ∷ cs) h k =
     → (b || has mark cs ≡ true → list_all is_decimal_byte (if b then cs else behind mark cs) ≡ true) → is_decimal_byte c && list_all is_decimal_byte cs ≡ true) [
       | true ↦ λ e front back. and_from (is_decimal_byte c) (list_all is_decimal_byte cs) (mark_in_decimal mark c e) (back refl)
       | false ↦ λ e front back.
-      let parts = and_parts (is_decimal_byte c) (list_all is_decimal_byte (before mark cs)) front in
-      and_from (is_decimal_byte c) (list_all is_decimal_byte cs) parts.0 (parted mark cs parts.1 back)
+          let parts = and_parts (is_decimal_byte c) (list_all is_decimal_byte (before mark cs)) front in
+          and_from (is_decimal_byte c) (list_all is_decimal_byte cs) parts.0 (parted mark cs parts.1 back)
     ] refl h k
 
 sign_in_decimal : (c : ℕ) → ((c == 43) || (c == 45)) ≡ true → is_decimal_byte c ≡ true

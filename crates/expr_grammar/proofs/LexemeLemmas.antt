@@ -1,14 +1,14 @@
 -- Texts as their lexemes, the places aside.
-use Rattle.std.proofs.Common.{◌≡◌, ℕ, zero, suc, ◌+◌, ◌-◌, ◌<◌, ◌≤◌, ℤ, Bool, true, false, cond, not, ◌&&◌, ◌||◌, nat_le, List, [], ◌∷◌, ◌++◌, length, take, get_or, map, Option, Some, None, Result, Ok, Err, refl, sym, ap, subst, ◌∙◌, append_assoc, length-append, arith}
+use Rattle.std.proofs.Common.{◌≡◌, ℕ, suc, ◌+◌, ◌-◌, ◌<◌, ◌≤◌, ℤ, Bool, true, false, not, ◌&&◌, ◌||◌, nat_le, List, [], ◌∷◌, ◌++◌, length, take, get_or, map, Some, None, Ok, Err, refl, sym, ap, subst, ◌∙◌, append_assoc, length-append, arith}
 use Rattle.std.specs.Prelude.{◌==◌, nat_eq, nat_lt, if◌then◌else◌}
-use Rattle.std.specs.List.{list_all, AllPass}
+use Rattle.std.specs.List.{list_all}
 use Rattle.std.specs.Char.{is_ascii_digit, is_ascii_alphabetic}
 use Rattle.unicode_ident.specs.Ident.{is_xid_continue}
 use Rattle.unicode_ident.proofs.IdentLemmas.{is_xid_start-ascii}
 use Rattle.std.specs.Str.{is_utf8, chars, chars_after, continuation_len, lead_bits}
 use Rattle.std.specs.Option.{option_map}
 use Rattle.fc_base.proofs.NameLemmas.{is_name-length}
-use Rattle.std.proofs.lemmas.Bool.{and_parts, and_from, or_cases, or_parts, or_from, cases_Bool, false_from_ne_true, eqb-true, ne_eqb, not-true, false≢true, both_ways, true_from_ne_false, cond-true, cond-false, le-ltb, lt-ltb}
+use Rattle.std.proofs.lemmas.Bool.{and_parts, and_from, or_parts, or_from, false_from_ne_true, ne_eqb, not-true, both_ways, true_from_ne_false, cond-true, cond-false, le-ltb, lt-ltb}
 use Rattle.std.proofs.lemmas.Bool.Decides.{nat_tests}
 use Rattle.std.proofs.Math.Seq.{take-append_seam}
 use Rattle.std.proofs.lemmas.List.Sums.{AllPass-from_list_all}
@@ -16,7 +16,6 @@ use Rattle.fc_base.specs.Texts.{begins_name, spells_name, is_name, is_name_byte,
 use Rattle.fc_base.specs.Places.{Place, IsPlace, address_text, address_of}
 use Rattle.fc_base.proofs.AddressLemmas.{address_of-address_text}
 use Rattle.quantities.specs.Decimals.{is_decimal, decimal_value}
-use Rattle.quantities.specs.declared.decimal_fault.DecimalFault.{DecimalFault}
 use Rattle.quantities.specs.declared.decimal_fault.DecimalFault.TheVariants.{NotDecimal}
 use Rattle.quantities.proofs.DecimalLemmas.{value-not_decimal}
 use Rattle.object_paths.specs.PathParts.{is_blank, opened, until_closing}
@@ -67,10 +66,10 @@ placed_from (front {x} {c} w rest {xs} dark here more) place =
     record {
       placed = first ∷ later.placed;
       lexed =
-        cond-false (is_blank c) _ _ dark
-        ∙ ap (λ o. with_lexeme o place (λ n. lexed_from (n - 1) (place + 1) (w ++ rest))) here
-        ∙ ap (λ n. in_front first (lexed_from n (place + 1) (w ++ rest))) less
-        ∙ ap (in_front first) (skipped w rest (place + 1) ∙ later.lexed);
+          cond-false (is_blank c) _ _ dark
+          ∙ ap (λ o. with_lexeme o place (λ n. lexed_from (n - 1) (place + 1) (w ++ rest))) here
+          ∙ ap (λ n. in_front first (lexed_from n (place + 1) (w ++ rest))) less
+          ∙ ap (in_front first) (skipped w rest (place + 1) ∙ later.lexed);
       lexemes = ap (λ ys. x ∷ ys) later.lexemes;
     }
 

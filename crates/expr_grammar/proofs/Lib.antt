@@ -8,3 +8,5 @@ pub mod LexemeLemmas
 pub mod AsciiNames
 pub mod NumeralLemmas
 pub mod ReadingLemmas
+pub mod PrintedLemmas
+pub mod ReadBack

@@ -1,18 +1,16 @@
 -- Printed numbers are read back: amounts and exponents.
-use Rattle.std.proofs.Common.{◌≡◌, ℕ, suc, ◌+◌, ◌*◌, ◌/◌, ◌^◌, ◌<◌, ◌≤◌, ℤ, pos, negsuc, Bool, true, false, ◌&&◌, nat_le, List, [], ◌∷◌, ◌++◌, length, get_or, Option, Some, None, Ok, refl, sym, ap, subst, ◌∙◌, unsigned_abs, append_assoc, length-append, arith}
-use Rattle.std.specs.Prelude.{int_le, if◌then◌else◌}
-use Rattle.std.specs.List.{list_all, AllPass}
+use Rattle.std.proofs.Common.{◌≡◌, ℕ, suc, ◌+◌, ◌*◌, ◌/◌, ◌^◌, ◌<◌, ◌≤◌, ℤ, pos, negsuc, true, false, ◌&&◌, nat_le, List, [], ◌∷◌, ◌++◌, length, get_or, Some, sym, ap, subst, ◌∙◌, unsigned_abs, length-append, arith}
+use Rattle.std.specs.Prelude.{int_le}
+use Rattle.std.specs.List.{list_all}
 use Rattle.std.specs.Char.{is_ascii_digit}
 use Rattle.std.specs.Fmt.{decimal, signed_decimal, sign_text}
 use Rattle.std.specs.Int.{is_negative}
-use Rattle.std.proofs.lemmas.Bool.{and_from, le-leb, cond-true, false≢true}
+use Rattle.std.proofs.lemmas.Bool.{and_from, le-leb, cond-true}
 use Rattle.std.proofs.lemmas.Bool.Decides.{nat_tests}
 use Rattle.std.proofs.lemmas.Fmt.{decimal_nonempty, length-decimal-le}
 use Rattle.std.proofs.lemmas.List.Sums.{AllPass-from_list_all}
 use Rattle.std.proofs.Math.ListN.{get_or-append}
-use Rattle.quantities.specs.Amounts.{IsAmount}
-use Rattle.quantities.specs.Decimals.{are_digits, decimal_value}
-use Rattle.quantities.specs.Digits.{number_after}
+use Rattle.quantities.specs.Decimals.{are_digits}
 use Rattle.quantities.specs.Texts.{billion, digits_below, without_final_zeros, behind_point, whole_text, decimal_text}
 use Rattle.quantities.proofs.ReadLemmas.{number_after-decimal}
 use Rattle.quantities.proofs.RoundTrip.{read_whole, decimal_value-decimal_text}

@@ -1,19 +1,18 @@
 -- The tokens of a tree's printed form have the tree.
-use Rattle.std.proofs.Common.{◌≡◌, ℕ, suc, ◌+◌, ◌*◌, ◌<◌, ◌≤◌, ℤ, pos, negsuc, neg_ℤ, Bool, true, false, ◌&&◌, ◌||◌, nat_le, List, [], ◌∷◌, ◌++◌, Option, None, Some, IsTrue, cond, refl, sym, ap, subst, ◌∙◌, arith, append_assoc, append-nil}
-use Rattle.std.specs.Prelude.{if◌then◌else◌, int_le}
+use Rattle.std.proofs.Common.{◌≡◌, ℕ, suc, ◌*◌, ℤ, pos, negsuc, Bool, true, false, ◌||◌, nat_le, List, [], ◌∷◌, ◌++◌, Option, None, Some, refl, sym, subst, arith, append_assoc, append-nil}
+use Rattle.std.specs.Prelude.{if◌then◌else◌}
 use Rattle.std.specs.Ordering.{int_eq}
 use Rattle.std.proofs.lemmas.Bool.{le-leb, cond_both, false≢true}
 use Rattle.std.proofs.lemmas.Bool.Decides.{nat_tests, Decides-int_eq}
-use Rattle.fc_base.specs.Places.{Place, Block, IsPlace, IsBlock, address_text, address_of}
+use Rattle.fc_base.specs.Places.{Place, Block, IsPlace, address_text}
 use Rattle.fc_base.proofs.AddressLemmas.{address_of-address_text}
 use Rattle.quantities.specs.Texts.{billion, decimal_text}
 use Rattle.object_paths.specs.PathTexts.{is_word, needs_dot}
-use Rattle.object_paths.specs.Paths.{IsPath, IsOwner}
+use Rattle.object_paths.specs.Paths.{IsOwner}
 use Rattle.object_paths.specs.declared.slot_name.SlotName.{SlotName}
 use Rattle.object_paths.specs.declared.slot_name.SlotName.TheVariants.{Plain, Component, Marked}
 use Rattle.object_paths.specs.declared.path.Owner.{Owner}
 use Rattle.object_paths.specs.declared.path.Owner.TheVariants.{Here, ByName, ByLabel}
-use Rattle.object_paths.specs.declared.path.Path.{Path}
 use Rattle.expr_grammar.specs.declared.expr.UnitPower.{UnitPower}
 use Rattle.expr_grammar.specs.declared.sign.Sign as s
 use Rattle.expr_grammar.specs.declared.sign.Sign.TheVariants as sign
@@ -21,7 +20,7 @@ use Rattle.expr_grammar.specs.declared.token.Token.{Token}
 use Rattle.expr_grammar.specs.declared.token.Token.TheVariants as token
 use Rattle.expr_grammar.specs.declared.operators.AggregateOp.{AggregateOp}
 use Rattle.expr_grammar.specs.declared.operators.BinaryOp.TheVariants.{Plus, Minus, Times, Over, Modulo}
-use Rattle.expr_grammar.specs.Grammar.{Level, expression, comparison, sum, term, unary, powers, primary, binary_level, right_level, binary_sign, compare_sign, IsExponent, plain, negative, IsUnit, alone, raised, IsCorner, named, marked, semicolon, HoldsExponent, HasTree, a_comparison, a_sum, a_term, a_unary, a_power, a_primary, a_conditional, a_compare, a_binary, a_negate, a_raised, a_numeral, a_measure, a_unit, a_flag, a_text, a_path, in_brackets, a_function, a_modulo, an_aggregate, HasArguments, one_tree, more_trees, one_area, more_areas}
+use Rattle.expr_grammar.specs.Grammar.{Level, expression, comparison, sum, term, unary, powers, primary, binary_level, right_level, IsExponent, plain, negative, IsUnit, alone, raised, IsCorner, named, marked, semicolon, HoldsExponent, HasTree, a_comparison, a_sum, a_term, a_unary, a_power, a_primary, a_conditional, a_compare, a_binary, a_negate, a_raised, a_numeral, a_measure, a_unit, a_flag, a_text, a_path, in_brackets, a_function, a_modulo, an_aggregate, HasArguments, one_tree, more_trees, one_area, more_areas}
 use Rattle.expr_grammar.specs.Functions.{modulo_name}
 use Rattle.expr_grammar.specs.Lexemes.{short_number}
 use Rattle.expr_grammar.specs.PathTokens as p
@@ -29,7 +28,7 @@ use Rattle.expr_grammar.specs.PathTokens.{dot, slot_tokens, IsPathOf, behind_poi
 use Rattle.expr_grammar.specs.Printed.{tightness, level_of, fits, is_measure, fits_as_base}
 use Rattle.expr_grammar.specs.Spelled.{is_exponent, IsUnitPower, IsArea, IsSpelled, AreSpelled}
 use Rattle.expr_grammar.specs.Tree.{Tree, literal, unit_one, flag, text, path, negate, binary, power, compare, conditional, function, modulo, aggregate, Arguments, no_more, tree, cells}
-use Rattle.expr_grammar.specs.TreeTokens.{bracketed_tokens, exponent_tokens, raised_tokens, measure_tokens, printed_path_tokens, corner_token, area_tokens, separator_tokens, tree_tokens, argument_tokens}
+use Rattle.expr_grammar.specs.TreeTokens.{bracketed_tokens, exponent_tokens, raised_tokens, measure_tokens, printed_path_tokens, corner_token, tree_tokens, argument_tokens}
 
 -- ---- levels
 
@@ -118,7 +117,7 @@ operand l t h =
     at_level l (fits l t) (λ e. at_looser l (level_of t) e h)
     (at_looser expression (level_of t) (le-leb 0 (tightness (level_of t)) (omega arith)) h)
 
-as_expression : (t : Tree) {ts : List Token} → HasTree (level_of t) ts t → HasTree expression ts t
+pub as_expression : (t : Tree) {ts : List Token} → HasTree (level_of t) ts t → HasTree expression ts t
 as_expression t h = at_looser expression (level_of t) (le-leb 0 (tightness (level_of t)) (omega arith)) h
 
 -- ---- leaves

@@ -18,4 +18,5 @@ pub mod Grammar
 pub mod Printed
 pub mod TreeTokens
 pub mod Parse
+pub mod ReadBack
 pub mod Examples

@@ -1,13 +1,11 @@
 -- The printed form of a tree.
-use Rattle.std.specs.Prelude.{ℕ, zero, suc, ℤ, pos, Bool, true, false, not, ◌||◌, nat_le, if◌then◌else◌, List, [], ◌∷◌, ◌++◌, codes, Option, None, Some}
+use Rattle.std.specs.Prelude.{ℕ, ℤ, pos, Bool, true, false, nat_le, if◌then◌else◌, List, [], ◌∷◌, ◌++◌, codes, Option, None, Some}
 use Rattle.std.specs.Fmt.{signed_decimal}
 use Rattle.std.specs.Ordering.{int_eq}
 use Rattle.fc_base.specs.Places.{Block, address_text}
 use Rattle.quantities.specs.Texts.{decimal_text}
 use Rattle.object_paths.specs.PathTexts.{path_text}
 use Rattle.expr_grammar.specs.declared.expr.UnitPower.{UnitPower}
-use Rattle.expr_grammar.specs.declared.operators.BinaryOp.{BinaryOp}
-use Rattle.expr_grammar.specs.declared.operators.CompareOp.{CompareOp}
 use Rattle.expr_grammar.specs.Functions.{function_name, modulo_name, aggregate_name}
 use Rattle.expr_grammar.specs.Grammar.{Level, expression, comparison, sum, term, unary, powers, primary, binary_level, right_level, binary_sign, compare_sign}
 use Rattle.expr_grammar.specs.Signs.{sign_text}
