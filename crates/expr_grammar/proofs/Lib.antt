@@ -20,3 +20,4 @@ pub mod NumeralLemmas
 pub mod ReadingLemmas
 pub mod PrintedLemmas
 pub mod ReadBack
+pub mod BracketLemmas
