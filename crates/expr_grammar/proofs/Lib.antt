@@ -10,3 +10,14 @@ pub mod FrontComplete
 pub mod DescentComplete
 pub mod TreesRead
 pub mod OneTree
+pub mod TokenLemmas
+pub mod LongestLemmas
+pub mod AlphabetLemmas
+pub mod ByteLemmas
+pub mod LexemeLemmas
+pub mod AsciiNames
+pub mod NumeralLemmas
+pub mod ReadingLemmas
+pub mod PrintedLemmas
+pub mod ReadBack
+pub mod BracketLemmas

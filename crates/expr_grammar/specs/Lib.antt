@@ -16,7 +16,9 @@ pub mod Misplaced
 pub mod PathTokens
 pub mod Grammar
 pub mod Printed
+pub mod TreeTokens
 pub mod Parse
+pub mod ReadBack
 pub mod Examples
 pub mod SignNumbers
 pub mod Descent
