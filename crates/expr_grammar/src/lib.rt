@@ -3,6 +3,7 @@
 
 mod expr;
 mod fault;
+mod functions;
 pub mod laws;
 mod operators;
 mod sign;
