@@ -4,7 +4,10 @@
 mod expr;
 mod fault;
 mod functions;
+mod kinds;
 pub mod laws;
+mod limits;
+mod misplaced;
 mod operators;
 mod sign;
 mod token;
