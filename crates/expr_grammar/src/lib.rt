@@ -6,6 +6,7 @@ mod fault;
 mod functions;
 mod kinds;
 pub mod laws;
+mod lexing;
 mod limits;
 mod misplaced;
 mod operators;

@@ -1,0 +1,2 @@
+mod quoted;
+mod signs;
