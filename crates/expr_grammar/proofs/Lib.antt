@@ -1,3 +1,5 @@
 pub mod ReferenceLemmas
 pub mod NumberedLemmas
 pub mod LongestLemmas
+pub mod WordLemmas
+pub mod MarkedLemmas

@@ -1,2 +1,3 @@
 mod quoted;
 mod signs;
+mod word;
