@@ -1,3 +1,4 @@
+mod numeral;
 mod quoted;
 mod signs;
 mod word;
