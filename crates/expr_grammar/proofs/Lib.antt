@@ -5,3 +5,5 @@ pub mod WordLemmas
 pub mod MarkedLemmas
 pub mod DigitLemmas
 pub mod NumeralLemmas
+pub mod LexedLemmas
+pub mod FrontLemmas

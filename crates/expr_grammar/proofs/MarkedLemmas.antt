@@ -26,10 +26,10 @@ marked-short text marked =
     let parts : before_row spells.0 ++ decimal spells.0.row ≡ text = written-parts spells.0 ∙ spells.1.spelling in
     omega (arith, ap length parts, length-append (before_row spells.0) (decimal spells.0.row), length-parts spells.0 spells.1.place)
 
-ascii-nil : IsAscii []
+pub ascii-nil : IsAscii []
 ascii-nil i = omega arith
 
-ascii-cons : (c : ℕ) (cs : List ℕ) → c < 128 → IsAscii cs → IsAscii (c ∷ cs)
+pub ascii-cons : (c : ℕ) (cs : List ℕ) → c < 128 → IsAscii cs → IsAscii (c ∷ cs)
 ascii-cons c cs low rest zero = low
 ascii-cons c cs low rest (suc i) = rest i
 

@@ -10,6 +10,7 @@ pub mod Signs
 pub mod Longest
 pub mod Lexemes
 pub mod NumeralParts
+pub mod Lexing
 pub mod Functions
 pub mod Kinds
 pub mod Limits
