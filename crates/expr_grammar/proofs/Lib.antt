@@ -1,9 +1,9 @@
 pub mod ReferenceLemmas
 pub mod NumberedLemmas
-pub mod LongestLemmas
+pub mod LongestFronts
 pub mod WordLemmas
 pub mod MarkedLemmas
 pub mod DigitLemmas
-pub mod NumeralLemmas
+pub mod ScannedNumerals
 pub mod LexedLemmas
-pub mod FrontLemmas
+pub mod LexemeFronts
