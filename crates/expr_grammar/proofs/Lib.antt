@@ -21,3 +21,10 @@ pub mod ReadingLemmas
 pub mod PrintedLemmas
 pub mod ReadBack
 pub mod BracketLemmas
+pub mod LongestFronts
+pub mod WordLemmas
+pub mod MarkedLemmas
+pub mod DigitLemmas
+pub mod ScannedNumerals
+pub mod LexedLemmas
+pub mod LexemeFronts

@@ -9,6 +9,8 @@ pub mod Numbered
 pub mod Signs
 pub mod Longest
 pub mod Lexemes
+pub mod NumeralParts
+pub mod Lexing
 pub mod Functions
 pub mod Kinds
 pub mod Limits

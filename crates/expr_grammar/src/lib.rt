@@ -3,7 +3,12 @@
 
 mod expr;
 mod fault;
+mod functions;
+mod kinds;
 pub mod laws;
+mod lexing;
+mod limits;
+mod misplaced;
 mod operators;
 mod sign;
 mod token;
