@@ -10,3 +10,5 @@ pub mod FrontComplete
 pub mod DescentComplete
 pub mod TreesRead
 pub mod OneTree
+pub mod LevelEquations
+pub mod ArgumentLemmas

@@ -20,3 +20,4 @@ pub mod Parse
 pub mod Examples
 pub mod SignNumbers
 pub mod Descent
+pub mod Reading

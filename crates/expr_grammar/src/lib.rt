@@ -1,11 +1,18 @@
 //! The expressions of a document, as trees.
 #![tactic(auto)]
 
+mod building;
+mod copying;
+mod descent;
 mod expr;
 mod fault;
+mod functions;
 pub mod laws;
 mod operators;
+mod parser;
+mod paths;
 mod sign;
+mod stop;
 mod token;
 
 pub use expr::{Argument, Expr, Node, UnitPower};
