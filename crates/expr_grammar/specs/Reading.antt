@@ -7,7 +7,7 @@ use Rattle.fc_base.specs.Places.{Block}
 use Rattle.expr_grammar.specs.declared.expr.Argument.{Argument}
 use Rattle.expr_grammar.specs.declared.expr.Argument.TheVariants as argument
 use Rattle.expr_grammar.specs.declared.operators.AggregateOp.{AggregateOp}
-use Rattle.expr_grammar.specs.Descent.{Parsed, ◌>>=◌, parsed, parsed_arguments, whole_readers, second_argument, with_bracket, behind_separator, area_in_front}
+use Rattle.expr_grammar.specs.Descent.{Parsed, ◌>>=◌, parsed, parsed_arguments, whole_readers, second_argument, with_bracket, behind_separator, area_in_front, of_all}
 use Rattle.expr_grammar.specs.Grammar.{expression}
 use Rattle.expr_grammar.specs.Tree.{Tree, aggregate, Arguments, tree, cells}
 
@@ -66,3 +66,9 @@ joined (x ∷ xs) more = with_argument x (joined xs more)
 
 abbrev pub behind_arguments : List Argument → Parsed Arguments → Parsed Arguments
 behind_arguments xs p = p >>= λ more rest. Some (joined xs more, rest)
+
+-- the tokens, all of them, are the tree; Syntax comes where they are none
+abbrev pub GivesWhole : Result Tree Stop → List Token → Type 0
+GivesWhole (Ok t) ts = of_all (parsed expression ts) ≡ Some t
+GivesWhole (Err Syntax) ts = of_all (parsed expression ts) ≡ None
+GivesWhole (Err (Memory e)) ts = Unit {0}

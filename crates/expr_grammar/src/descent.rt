@@ -2,7 +2,7 @@ ghost use Rattle.std.specs.Prelude.{◌≡◌, ◌<◌, ◌≤◌, length, OnOk}
 ghost use Rattle.expr_grammar.specs.Descent as d;
 ghost use Rattle.expr_grammar.specs.Grammar.{expression, comparison, sum, term, unary, powers, primary};
 ghost use Rattle.expr_grammar.specs.Levels.{arguments_of};
-ghost use Rattle.expr_grammar.specs.Reading.{Gives, GivesBy, modulo_in_front, aggregate_in_front, argument_in_front};
+ghost use Rattle.expr_grammar.specs.Reading.{Gives, GivesBy, GivesWhole, modulo_in_front, aggregate_in_front, argument_in_front};
 ghost use Rattle.expr_grammar.specs.declared.sign.Sign.TheVariants as sign;
 
 use crate::expr::{Argument, Expr, Node};
@@ -14,6 +14,7 @@ use crate::stop::Stop;
 use crate::token::Token;
 use fc_base::Name;
 use object_paths::{Owner, Path, SlotName};
+use std::alloc::Global;
 
 impl Parser<'_> {
     /// A condition with two arms, or a comparison.
@@ -248,5 +249,17 @@ impl Parser<'_> {
             Some(area) => Ok(Argument::Cells(area)),
             None => Ok(Argument::Tree(self.expression()?)),
         }
+    }
+}
+
+/// Reads the expression that the tokens are, all of them. Syntax comes exactly where they are none.
+pub(crate) fn tree(alloc: Global, tokens: &[Token]) -> Result<Expr, Stop>
+    ensures { GivesWhole result tokens.now }
+{
+    let mut parser = Parser { alloc, tokens };
+    let tree = parser.expression()?;
+    match parser.tokens {
+        [] => Ok(tree),
+        _ => Err(Stop::Syntax),
     }
 }

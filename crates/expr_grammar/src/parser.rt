@@ -99,6 +99,7 @@ fn area_of(from: Address, to: Address, rest: &[Token]) -> Option<Area>
 }
 
 /// A reader of trees: what is left of its tokens.
+#[derive(Drop)]
 pub(crate) struct Parser<'a> {
     pub(crate) alloc: Global,
     pub(crate) tokens: &'a [Token],
