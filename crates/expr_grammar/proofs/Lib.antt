@@ -28,3 +28,5 @@ pub mod DigitLemmas
 pub mod ScannedNumerals
 pub mod LexedLemmas
 pub mod LexemeFronts
+pub mod LevelEquations
+pub mod ArgumentLemmas

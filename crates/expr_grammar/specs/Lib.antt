@@ -24,3 +24,4 @@ pub mod ReadBack
 pub mod Examples
 pub mod SignNumbers
 pub mod Descent
+pub mod Reading

@@ -1,6 +1,9 @@
 //! The expressions of a document, as trees.
 #![tactic(auto)]
 
+mod building;
+mod copying;
+mod descent;
 mod expr;
 mod fault;
 mod functions;
@@ -10,7 +13,10 @@ mod lexing;
 mod limits;
 mod misplaced;
 mod operators;
+mod parser;
+mod paths;
 mod sign;
+mod stop;
 mod token;
 
 pub use expr::{Argument, Expr, Node, UnitPower};
