@@ -68,11 +68,11 @@ pub takes_lexeme : (front : List Placed) (all : Result (List Placed) ℕ) (place
     → with_front front (lexed_from 0 place text) ≡ all → with_front (front ++ (record { place = place; lexeme = x }) ∷ []) (lexed_from 0 next rest) ≡ all
 takes_lexeme front all place next n text rest x some none found long within left at so_far =
     let step : lexed_from 0 place text ≡ in_front (record { place = place; lexeme = x }) (lexed_from (n - 1) (place + 1) (drop 1 text)) =
-        lexeme-step place text some none ∙ ap (λ o. with_lexeme o place (λ k. lexed_from (k - 1) (place + 1) (drop 1 text))) (sym found) in
+    lexeme-step place text some none ∙ ap (λ o. with_lexeme o place (λ k. lexed_from (k - 1) (place + 1) (drop 1 text))) (sym found) in
     let further : lexed_from (n - 1) (place + 1) (drop 1 text) ≡ lexed_from 0 next rest =
-        skips (n - 1) (place + 1) (drop 1 text) (omega (arith, length-drop 1 text))
-        ∙ (let same : place + 1 + (n - 1) ≡ next = omega arith in ap (λ p. lexed_from 0 p (drop (n - 1) (drop 1 text))) same)
-        ∙ ap (lexed_from 0 next) (drop-one n text long ∙ sym left) in
+    skips (n - 1) (place + 1) (drop 1 text) (omega (arith, length-drop 1 text))
+    ∙ (let same : place + 1 + (n - 1) ≡ next = omega arith in ap (λ p. lexed_from 0 p (drop (n - 1) (drop 1 text))) same)
+    ∙ ap (lexed_from 0 next) (drop-one n text long ∙ sym left) in
     regroup front (record { place = place; lexeme = x }) (lexed_from 0 next rest)
     ∙ ap (λ r. with_front front (in_front (record { place = place; lexeme = x }) r)) (sym further)
     ∙ ap (with_front front) (sym step) ∙ so_far

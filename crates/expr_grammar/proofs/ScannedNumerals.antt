@@ -355,8 +355,8 @@ signed-ascii : (text : List ℕ) → is_signed text ≡ true → IsAscii text
 signed-ascii [] signed = ascii-nil
 signed-ascii (c ∷ cs) signed = ⊎_elim
     (λ sign.
-      let low : c < 128 = grind (arith, nat_tests) in
-      ascii-cons c cs low (digits-ascii cs (digits-all 2 cs (ap (are_digits 2) (sym (cond-true ((c == 43) || (c == 45)) cs (c ∷ cs) sign)) ∙ signed))))
+    let low : c < 128 = grind (arith, nat_tests) in
+    ascii-cons c cs low (digits-ascii cs (digits-all 2 cs (ap (are_digits 2) (sym (cond-true ((c == 43) || (c == 45)) cs (c ∷ cs) sign)) ∙ signed))))
     (λ other. digits-ascii (c ∷ cs) (digits-all 2 (c ∷ cs) (ap (are_digits 2) (sym (cond-false ((c == 43) || (c == 45)) cs (c ∷ cs) other)) ∙ signed)))
     (cases_Bool ((c == 43) || (c == 45)))
 
@@ -364,16 +364,16 @@ fraction-ascii : (f : List ℕ) → Part is_fraction f → IsAscii f
 fraction-ascii [] part = ascii-nil
 fraction-ascii (c ∷ cs) part = ⊎_elim (λ none. absurd (cc))
     (λ h.
-      let parts = and_parts (is_mark Point c) (are_digits 40 cs) h in
-      ascii-cons c cs (mark-ascii Point c parts.0) (digits-ascii cs (digits-all 40 cs parts.1)))
+    let parts = and_parts (is_mark Point c) (are_digits 40 cs) h in
+    ascii-cons c cs (mark-ascii Point c parts.0) (digits-ascii cs (digits-all 40 cs parts.1)))
     part
 
 exponent-ascii : (e : List ℕ) → Part is_exponent e → IsAscii e
 exponent-ascii [] part = ascii-nil
 exponent-ascii (c ∷ cs) part = ⊎_elim (λ none. absurd (cc))
     (λ h.
-      let parts = and_parts (is_mark Exponent c) (is_signed cs) h in
-      ascii-cons c cs (mark-ascii Exponent c parts.0) (signed-ascii cs parts.1))
+    let parts = and_parts (is_mark Exponent c) (is_signed cs) h in
+    ascii-cons c cs (mark-ascii Exponent c parts.0) (signed-ascii cs parts.1))
     part
 
 decimal-ascii : (text : List ℕ) → IsNumeral text → IsAscii text
