@@ -10,3 +10,4 @@ pub mod NumeralLemmas
 pub mod ReadingLemmas
 pub mod PrintedLemmas
 pub mod ReadBack
+pub mod ArgumentNodes

@@ -19,4 +19,5 @@ pub mod Printed
 pub mod TreeTokens
 pub mod Parse
 pub mod ReadBack
+pub mod PrintingLevels
 pub mod Examples

@@ -5,11 +5,13 @@ mod expr;
 mod fault;
 pub mod laws;
 mod operators;
+mod printing;
 mod sign;
 mod token;
 
 pub use expr::{Argument, Expr, Node, UnitPower};
 pub use fault::{ExprCause, ExprFault, ParseFault};
 pub use operators::{AggregateOp, BinaryOp, CompareOp, FunctionOp};
+pub use printing::print;
 pub use sign::Sign;
 pub use token::{Lexeme, Placed, Token};
