@@ -11,3 +11,5 @@ pub mod ReadingLemmas
 pub mod PrintedLemmas
 pub mod ReadBack
 pub mod ArgumentNodes
+pub mod SpelledLemmas
+pub mod SpelledTrees

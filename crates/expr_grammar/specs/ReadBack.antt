@@ -1,5 +1,5 @@
--- A printed tree is read back as itself.
-use Rattle.std.specs.Prelude.{◌≡◌, List, Ok}
+-- A printed tree is read back as itself, and every tree that is read can be printed.
+use Rattle.std.specs.Prelude.{◌≡◌, ℕ, List, Ok}
 use Rattle.expr_grammar.specs.declared.token.Placed.{Placed}
 use Rattle.expr_grammar.specs.Grammar.{HasTree, expression}
 use Rattle.expr_grammar.specs.Kinds.{tokens_of}
@@ -16,3 +16,7 @@ PrintedFormHasTree = (t : Tree) → IsSpelled t → (xs : List Placed) × ((lexe
 -- so within the limits it is an expression with that tree
 abbrev pub PrintedFormIsRead : Type 0
 PrintedFormIsRead = (t : Tree) → IsSpelled t → (xs : List Placed) → IsLexed (printed t) xs → Parses (printed t) t
+
+-- the tree of a text can be spelled
+abbrev pub ParsedTreesAreSpelled : Type 0
+ParsedTreesAreSpelled = (text : List ℕ) (t : Tree) → Parses text t → IsSpelled t

@@ -1,6 +1,6 @@
 //! Laws of the definitions, each as the contract of a function with nothing to do.
 ghost use Rattle.expr_grammar.specs.Numbered.{NumbersDontMatter};
-ghost use Rattle.expr_grammar.specs.ReadBack.{PrintedFormHasTree, PrintedFormIsRead};
+ghost use Rattle.expr_grammar.specs.ReadBack.{PrintedFormHasTree, PrintedFormIsRead, ParsedTreesAreSpelled};
 ghost use Rattle.expr_grammar.specs.References.{ReferencesAreCounted, ReferencesAreChanged};
 
 /// The references of a tree are as many as are counted, so their numbers begin at 0 and leave none
@@ -26,4 +26,10 @@ pub fn numbers_dont_matter()
 pub fn printed_form_is_read()
     ensures has_tree { PrintedFormHasTree }
     ensures is_read { PrintedFormIsRead }
+{}
+
+/// The tree of a text can be spelled: its names are names, its numerals amounts that are not
+/// negative, its units those of the table, its exponents of one or two digits.
+pub fn parsed_trees_are_spelled()
+    ensures { ParsedTreesAreSpelled }
 {}
