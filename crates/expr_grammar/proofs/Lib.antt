@@ -30,3 +30,6 @@ pub mod LexedLemmas
 pub mod LexemeFronts
 pub mod LevelEquations
 pub mod ArgumentLemmas
+pub mod ArgumentNodes
+pub mod SpelledLemmas
+pub mod SpelledTrees

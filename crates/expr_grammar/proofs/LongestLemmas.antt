@@ -1,5 +1,5 @@
 -- The longest front that passes a test is the one that passes, where no longer one does.
-use Rattle.std.proofs.Common.{◌≡◌, ℕ, zero, suc, ◌<◌, ◌≤◌, ◌⊎◌, Bool, true, false, cond, List, length, take, subst, sym, ◌∙◌, ⊎_elim, arith}
+use Rattle.std.proofs.Common.{◌≡◌, ℕ, zero, suc, ◌<◌, ◌≤◌, ◌⊎◌, inl, inr, refl, Bool, true, false, cond, List, length, take, subst, sym, ◌∙◌, ⊎_elim, arith}
 use Rattle.std.proofs.lemmas.Bool.{cond-true, cases_lt}
 use Rattle.expr_grammar.specs.Longest.{longest, longest_within}
 
@@ -39,3 +39,17 @@ module _ (test : List ℕ → Bool) (text : List ℕ) (n : ℕ) where
       → longest test text ≡ n
   unfolding longest
   longest-is within passes none = longest_within-is (length text) within passes none
+
+-- the longest front passes, unless it is empty
+module _ (test : List ℕ → Bool) (text : List ℕ) where
+  longest_within-passes : (most : ℕ) → (longest_within test most text ≡ 0) ⊎ (test (take (longest_within test most text) text) ≡ true)
+  unfolding longest_within
+  longest_within-passes zero = inl refl
+  longest_within-passes (suc most) =
+      elim (test (take (suc most) text)) as (λ b. test (take (suc most) text) ≡ b
+      → (cond b (suc most) (longest_within test most text) ≡ 0) ⊎ (test (take (cond b (suc most) (longest_within test most text)) text) ≡ true))
+      [ true ↦ λ e. inr e | false ↦ λ e. longest_within-passes most ] refl
+
+  pub longest-passes : (longest test text ≡ 0) ⊎ (test (take (longest test text) text) ≡ true)
+  unfolding longest
+  longest-passes = longest_within-passes (length text)

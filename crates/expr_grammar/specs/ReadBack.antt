@@ -1,5 +1,5 @@
--- A printed tree is read back as itself.
-use Rattle.std.specs.Prelude.{◌≡◌, true, false, List, Ok}
+-- A printed tree is read back as itself, and every tree that is read can be printed.
+use Rattle.std.specs.Prelude.{◌≡◌, ℕ, true, false, List, Ok}
 use Rattle.expr_grammar.specs.declared.token.Placed.{Placed}
 use Rattle.expr_grammar.specs.Grammar.{Level, HasTree, expression}
 use Rattle.expr_grammar.specs.Kinds.{tokens_of}
@@ -24,3 +24,7 @@ abbrev pub BracketsStandWhereNeeded : Type 0
 BracketsStandWhereNeeded =
     (l : Level) (t : Tree) → IsSpelled t
     → (fits l t ≡ true → HasTree l (tree_tokens t) t) × (fits l t ≡ false → HasTree l (tree_tokens t) t → ⊥)
+
+-- the tree of a text can be spelled
+abbrev pub ParsedTreesAreSpelled : Type 0
+ParsedTreesAreSpelled = (text : List ℕ) (t : Tree) → Parses text t → IsSpelled t

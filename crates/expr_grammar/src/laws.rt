@@ -1,7 +1,7 @@
 //! Laws of the definitions, each as the contract of a function with nothing to do.
 ghost use Rattle.expr_grammar.specs.Grammar.{HaveOneTree};
 ghost use Rattle.expr_grammar.specs.Numbered.{NumbersDontMatter};
-ghost use Rattle.expr_grammar.specs.ReadBack.{PrintedFormHasTree, PrintedFormIsRead, BracketsStandWhereNeeded};
+ghost use Rattle.expr_grammar.specs.ReadBack.{PrintedFormHasTree, PrintedFormIsRead, BracketsStandWhereNeeded, ParsedTreesAreSpelled};
 ghost use Rattle.expr_grammar.specs.References.{ReferencesAreCounted, ReferencesAreChanged};
 
 /// The references of a tree are as many as are counted, so their numbers begin at 0 and leave none
@@ -38,4 +38,10 @@ pub fn printed_form_is_read()
 /// itself: there its tokens alone are not read as its tree.
 pub fn brackets_stand_where_needed()
     ensures { BracketsStandWhereNeeded }
+{}
+
+/// The tree of a text can be spelled: its names are names, its numerals amounts that are not
+/// negative, its units those of the table, its exponents of one or two digits.
+pub fn parsed_trees_are_spelled()
+    ensures { ParsedTreesAreSpelled }
 {}

@@ -1,5 +1,6 @@
-ghost use Rattle.std.specs.Prelude.{◌≡◌, Err};
+ghost use Rattle.std.specs.Prelude.{◌≡◌, IfOk};
 ghost use Rattle.expr_grammar.specs.Parse.{MeetsGrammar, MeetsParse};
+ghost use Rattle.expr_grammar.specs.Spelled.{IsSpelled};
 ghost use Rattle.expr_grammar.specs.declared.fault.ParseFault.TheVariants as answer;
 
 use crate::descent::tree;
@@ -38,7 +39,8 @@ fn tree_of(alloc: Global, lexemes: &[Placed], end: u64) -> Result<Expr, ParseFau
 /// or more than 32 round brackets open at once, and Syntax where the tokens are no expression, in
 /// this order. Identifiers are XID words (Unicode Standard Annex 31).
 pub fn parse(alloc: Global, text: &str) -> Result<Expr, ParseFault>
-    ensures { MeetsParse text.now result }
+    ensures exact { MeetsParse text.now result }
+    ensures spelled { IfOk result IsSpelled }
 {
     let lexemes = match lexemes(alloc, text) {
         Ok(lexemes) => lexemes,
