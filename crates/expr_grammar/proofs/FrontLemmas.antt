@@ -1,12 +1,12 @@
 -- A lexeme in front of a text has a byte at least, and the text may be cut behind it.
-use Rattle.std.proofs.Common.{◌≡◌, ℕ, zero, suc, ◌+◌, ◌-◌, ◌<◌, ◌≤◌, Bool, true, false, cond, ◌&&◌, ◌==◌, nat_lt, nat_eq, List, [], ◌∷◌, ◌++◌, length, take, drop, get_or, Option, Some, None, Result, Ok, Err, ℤ, refl, sym, ap, subst, ◌∙◌, append_assoc, ⊎_elim, length-append, length-take, take-append-drop, arith}
+use Rattle.std.proofs.Common.{◌≡◌, ℕ, ◌+◌, ◌<◌, Bool, true, false, cond, ◌&&◌, ◌==◌, nat_lt, nat_eq, List, [], ◌∷◌, ◌++◌, length, take, get_or, Option, Some, None, Result, Ok, Err, ℤ, refl, sym, ap, subst, ◌∙◌, append_assoc, ⊎_elim, length-append, length-take, arith}
 use Rattle.std.specs.Prelude.{find}
 use Rattle.std.specs.Char.{is_ascii_digit}
 use Rattle.std.specs.Cmp.Lexicographic.{pointwise, same_text}
 use Rattle.std.specs.List.{list_all, starts_with}
 use Rattle.std.specs.Option.{option_map}
 use Rattle.std.specs.Str.{IsUtf8, IsAscii, IsCharBoundary}
-use Rattle.std.proofs.lemmas.Bool.{and_parts, both_ways, cases_lt, cases_Bool, cond-true, cond-false, ltb-true, eqb-true, false≢true, true_from_ne_false}
+use Rattle.std.proofs.lemmas.Bool.{and_parts, cases_Bool, cond-true, cond-false, ltb-true, eqb-true, true_from_ne_false}
 use Rattle.std.proofs.lemmas.Str.{IsCharBoundary-after_ascii, IsCharBoundary-from_take, IsUtf8-from_ascii}
 use Rattle.std.proofs.lemmas.List.{get_or_at}
 use Rattle.fc_base.specs.Texts.{is_name, is_text_value}
@@ -68,15 +68,15 @@ word-front text x utf8 e =
     let address : ℕ = longest is_marked_address text in
     ⊎_elim
     (λ more.
-      let found = length-of address (marked_of (take address text)) x
-          (sym (cond-true (nat_lt word address) (of_length address (marked_of (take address text))) (of_length word (identifier_of (take word text))) more) ∙ e) in
-      let some : 0 < address = omega (arith, ltb-true word address more) in
-      subst (IsFront text) (sym found.2) (record { some = some; boundary = marked-boundary text utf8 }))
+    let found = length-of address (marked_of (take address text)) x
+    (sym (cond-true (nat_lt word address) (of_length address (marked_of (take address text))) (of_length word (identifier_of (take word text))) more) ∙ e) in
+    let some : 0 < address = omega (arith, ltb-true word address more) in
+    subst (IsFront text) (sym found.2) (record { some = some; boundary = marked-boundary text utf8 }))
     (λ less.
-      let found = length-of word (identifier_of (take word text)) x
-          (sym (cond-false (nat_lt word address) (of_length address (marked_of (take address text))) (of_length word (identifier_of (take word text))) less) ∙ e) in
-      let some : 0 < length (take word text) = is_name-length (take word text) (named (take word text) found.0 found.1) in
-      subst (IsFront text) (sym found.2) (record { some = omega (arith, length-take word text); boundary = word-boundary text utf8 }))
+    let found = length-of word (identifier_of (take word text)) x
+    (sym (cond-false (nat_lt word address) (of_length address (marked_of (take address text))) (of_length word (identifier_of (take word text))) less) ∙ e) in
+    let some : 0 < length (take word text) = is_name-length (take word text) (named (take word text) found.0 found.1) in
+    subst (IsFront text) (sym found.2) (record { some = omega (arith, length-take word text); boundary = word-boundary text utf8 }))
     (cases_Bool (nat_lt word address))
   where
     named : (name : List ℕ) (z : Lexeme) → identifier_of name ≡ Some z → is_name name ≡ true
@@ -91,9 +91,9 @@ opened-front [] rest e = absurd (cc)
 opened-front (a ∷ []) rest e = absurd (cc)
 opened-front (a ∷ b ∷ cs) rest e = ⊎_elim
     (λ marks.
-      let parts = and_parts (a == 60) (b == 60) marks in
-      let left : cs ≡ rest = cc (cond-true ((a == 60) && (b == 60)) (Some cs) None marks) in
-      λ i. eqb-true a 60 parts.0 i ∷ eqb-true b 60 parts.1 i ∷ left i)
+    let parts = and_parts (a == 60) (b == 60) marks in
+    let left : cs ≡ rest = cc (cond-true ((a == 60) && (b == 60)) (Some cs) None marks) in
+    λ i. eqb-true a 60 parts.0 i ∷ eqb-true b 60 parts.1 i ∷ left i)
     (λ none. absurd (cc (cond-false ((a == 60) && (b == 60)) (Some cs) None none)))
     (cases_Bool ((a == 60) && (b == 60)))
 
@@ -121,12 +121,12 @@ quoted-front text rest x utf8 opens e = found (until_closing rest) refl e
     sized : (cut : List ℕ × List ℕ) → quoted (Some cut) ≡ Some x → x.1 ≡ length cut.0 + 4
     sized cut h = ⊎_elim
         (λ value.
-          let text_of : Lexeme × ℕ = (lexeme.Text cut.0, length cut.0 + 4) in
-          let same : text_of ≡ x = cc (cond-true (is_text_value cut.0) (Some text_of) None value) in
-          ap (λ (p : Lexeme × ℕ). p.1) (sym same))
+        let text_of : Lexeme × ℕ = (lexeme.Text cut.0, length cut.0 + 4) in
+        let same : text_of ≡ x = cc (cond-true (is_text_value cut.0) (Some text_of) None value) in
+        ap (λ (p : Lexeme × ℕ). p.1) (sym same))
         (λ none.
-          let text_of : Lexeme × ℕ = (lexeme.Text cut.0, length cut.0 + 4) in
-          absurd (cc (cond-false (is_text_value cut.0) (Some text_of) None none)))
+        let text_of : Lexeme × ℕ = (lexeme.Text cut.0, length cut.0 + 4) in
+        absurd (cc (cond-false (is_text_value cut.0) (Some text_of) None none)))
         (cases_Bool (is_text_value cut.0))
 
     found : (o : Option (List ℕ × List ℕ)) → until_closing rest ≡ o → quoted o ≡ Some x → IsFront text x.1
@@ -135,7 +135,7 @@ quoted-front text rest x utf8 opens e = found (until_closing rest) refl e
         let n : ℕ = length cut.0 + 4 in
         let size : x.1 ≡ n = sized cut h in
         let split : text ≡ (60 ∷ 60 ∷ cut.0 ++ 62 ∷ []) ++ 62 ∷ cut.1 =
-            opened-front text rest opens ∙ ap (λ (xs : List ℕ). 60 ∷ 60 ∷ xs) (closing-front rest cut closed ∙ sym (append_assoc cut.0 (62 ∷ []) (62 ∷ cut.1))) in
+        opened-front text rest opens ∙ ap (λ (xs : List ℕ). 60 ∷ 60 ∷ xs) (closing-front rest cut closed ∙ sym (append_assoc cut.0 (62 ∷ []) (62 ∷ cut.1))) in
         let front : length (60 ∷ 60 ∷ cut.0 ++ 62 ∷ []) ≡ length cut.0 + 3 = omega (arith, length-append cut.0 (62 ∷ [])) in
         let long : length text ≡ length cut.0 + 4 + length cut.1 = omega (arith, ap length split, length-append (60 ∷ 60 ∷ cut.0 ++ 62 ∷ []) (62 ∷ cut.1)) in
         let byte : get_or text (length cut.0 + 3) 0 ≡ 62 = ap (λ t. get_or t (length cut.0 + 3) 0) split ∙ get_or_at (60 ∷ 60 ∷ cut.0 ++ 62 ∷ []) 62 cut.1 0 (length cut.0 + 3) front in
@@ -151,8 +151,8 @@ find-passes p q (y ∷ ys) x all e =
     let parts = and_parts (q y) (list_all q ys) all in
     ⊎_elim
     (λ here.
-      let same : y ≡ x = cc (cond-true (p y) (Some y) (find p ys) here) in
-      (ap p (sym same) ∙ here, ap q (sym same) ∙ parts.0))
+    let same : y ≡ x = cc (cond-true (p y) (Some y) (find p ys) here) in
+    (ap p (sym same) ∙ here, ap q (sym same) ∙ parts.0))
     (λ later. find-passes p q ys x parts.1 (sym (cond-false (p y) (Some y) (find p ys) later) ∙ e))
     (cases_Bool (p y))
 

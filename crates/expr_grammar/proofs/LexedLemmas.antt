@@ -1,5 +1,5 @@
 -- The lexemes of a text, one after the other, as a loop reads them.
-use Rattle.std.proofs.Common.{◌≡◌, ℕ, zero, suc, ◌+◌, ◌-◌, ◌<◌, ◌≤◌, Bool, true, false, cond, List, [], ◌∷◌, ◌++◌, length, take, drop, Option, Some, None, Result, Ok, Err, refl, sym, ap, subst, ◌∙◌, append_assoc, append-nil, length-drop, ⊎_elim, arith}
+use Rattle.std.proofs.Common.{◌≡◌, ℕ, zero, suc, ◌+◌, ◌-◌, ◌<◌, ◌≤◌, true, List, [], ◌∷◌, ◌++◌, length, drop, Some, None, Result, Ok, Err, refl, sym, ap, ◌∙◌, append_assoc, append-nil, length-drop, arith}
 use Rattle.std.proofs.lemmas.Bool.{false_from_ne_true, cond-true, cond-false}
 use Rattle.object_paths.specs.PathParts.{is_blank}
 use Rattle.expr_grammar.specs.Lexemes.{lexeme_at, lexed_from, lexed, in_front, with_lexeme}
@@ -68,11 +68,11 @@ pub takes_lexeme : (front : List Placed) (all : Result (List Placed) ℕ) (place
     → with_front front (lexed_from 0 place text) ≡ all → with_front (front ++ (record { place = place; lexeme = x }) ∷ []) (lexed_from 0 next rest) ≡ all
 takes_lexeme front all place next n text rest x some none found long within left at so_far =
     let step : lexed_from 0 place text ≡ in_front (record { place = place; lexeme = x }) (lexed_from (n - 1) (place + 1) (drop 1 text)) =
-        lexeme-step place text some none ∙ ap (λ o. with_lexeme o place (λ k. lexed_from (k - 1) (place + 1) (drop 1 text))) (sym found) in
+    lexeme-step place text some none ∙ ap (λ o. with_lexeme o place (λ k. lexed_from (k - 1) (place + 1) (drop 1 text))) (sym found) in
     let further : lexed_from (n - 1) (place + 1) (drop 1 text) ≡ lexed_from 0 next rest =
-        skips (n - 1) (place + 1) (drop 1 text) (omega (arith, length-drop 1 text))
-        ∙ (let same : place + 1 + (n - 1) ≡ next = omega arith in ap (λ p. lexed_from 0 p (drop (n - 1) (drop 1 text))) same)
-        ∙ ap (lexed_from 0 next) (drop-one n text long ∙ sym left) in
+    skips (n - 1) (place + 1) (drop 1 text) (omega (arith, length-drop 1 text))
+    ∙ (let same : place + 1 + (n - 1) ≡ next = omega arith in ap (λ p. lexed_from 0 p (drop (n - 1) (drop 1 text))) same)
+    ∙ ap (lexed_from 0 next) (drop-one n text long ∙ sym left) in
     regroup front (record { place = place; lexeme = x }) (lexed_from 0 next rest)
     ∙ ap (λ r. with_front front (in_front (record { place = place; lexeme = x }) r)) (sym further)
     ∙ ap (with_front front) (sym step) ∙ so_far

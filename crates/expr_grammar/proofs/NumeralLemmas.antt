@@ -1,9 +1,9 @@
 -- A decimal with a digit in front is digits, then perhaps a fraction, then perhaps an exponent.
-use Rattle.std.proofs.Common.{◌≡◌, ℕ, zero, suc, ◌+◌, ◌-◌, ◌<◌, ◌≤◌, Bool, true, false, cond, not, ◌&&◌, ◌||◌, ◌==◌, List, [], ◌∷◌, ◌++◌, length, take, drop, get_or, refl, sym, ap, subst, ◌∙◌, ◌⊎◌, inl, inr, ⊎_elim, append_assoc, append-nil, length-append, length-take, length-drop, take-append-drop, arith}
+use Rattle.std.proofs.Common.{◌≡◌, ℕ, zero, suc, ◌+◌, ◌<◌, ◌≤◌, Bool, true, false, cond, not, ◌&&◌, ◌||◌, ◌==◌, List, [], ◌∷◌, ◌++◌, length, take, drop, get_or, refl, sym, ap, subst, ◌∙◌, ◌⊎◌, inl, inr, ⊎_elim, append_assoc, append-nil, length-append, length-take, length-drop, take-append-drop, arith}
 use Rattle.std.proofs.Math.Seq.{take-add}
 use Rattle.std.specs.Char.{is_ascii_digit}
 use Rattle.std.specs.List.{list_all}
-use Rattle.std.proofs.lemmas.Bool.{and_parts, and_from, or_right, or_left, both_ways, cases_lt, cases_Bool, cond-true, cond-false, false≢true, false_from_ne_true}
+use Rattle.std.proofs.lemmas.Bool.{and_parts, and_from, or_right, both_ways, cases_lt, cases_Bool, cond-true, cond-false, false≢true}
 use Rattle.std.proofs.lemmas.Bool.Decides.{nat_tests}
 use Rattle.std.proofs.lemmas.List.{drop_at, get_or-take}
 use Rattle.std.specs.Str.{IsUtf8, IsAscii, IsCharBoundary}
@@ -13,7 +13,7 @@ use Rattle.quantities.specs.declared.mark.Mark.{Mark}
 use Rattle.quantities.specs.declared.mark.Mark.TheVariants.{Point, Exponent}
 use Rattle.expr_grammar.specs.Longest.{longest}
 use Rattle.expr_grammar.specs.NumeralParts.{is_fraction, is_signed, is_exponent}
-use Rattle.expr_grammar.proofs.LongestLemmas.{longest-is, longest-le, longest-most, longest-passes, longest-front}
+use Rattle.expr_grammar.proofs.LongestLemmas.{longest-is, longest-le, longest-passes, longest-front}
 use Rattle.expr_grammar.proofs.MarkedLemmas.{ascii-nil, ascii-cons}
 use Rattle.expr_grammar.proofs.DigitLemmas.{digits-some, digits-all, digits-stop, fraction-other}
 
@@ -355,8 +355,8 @@ signed-ascii : (text : List ℕ) → is_signed text ≡ true → IsAscii text
 signed-ascii [] signed = ascii-nil
 signed-ascii (c ∷ cs) signed = ⊎_elim
     (λ sign.
-      let low : c < 128 = grind (arith, nat_tests) in
-      ascii-cons c cs low (digits-ascii cs (digits-all 2 cs (ap (are_digits 2) (sym (cond-true ((c == 43) || (c == 45)) cs (c ∷ cs) sign)) ∙ signed))))
+    let low : c < 128 = grind (arith, nat_tests) in
+    ascii-cons c cs low (digits-ascii cs (digits-all 2 cs (ap (are_digits 2) (sym (cond-true ((c == 43) || (c == 45)) cs (c ∷ cs) sign)) ∙ signed))))
     (λ other. digits-ascii (c ∷ cs) (digits-all 2 (c ∷ cs) (ap (are_digits 2) (sym (cond-false ((c == 43) || (c == 45)) cs (c ∷ cs) other)) ∙ signed)))
     (cases_Bool ((c == 43) || (c == 45)))
 
@@ -364,16 +364,16 @@ fraction-ascii : (f : List ℕ) → Part is_fraction f → IsAscii f
 fraction-ascii [] part = ascii-nil
 fraction-ascii (c ∷ cs) part = ⊎_elim (λ none. absurd (cc))
     (λ h.
-      let parts = and_parts (is_mark Point c) (are_digits 40 cs) h in
-      ascii-cons c cs (mark-ascii Point c parts.0) (digits-ascii cs (digits-all 40 cs parts.1)))
+    let parts = and_parts (is_mark Point c) (are_digits 40 cs) h in
+    ascii-cons c cs (mark-ascii Point c parts.0) (digits-ascii cs (digits-all 40 cs parts.1)))
     part
 
 exponent-ascii : (e : List ℕ) → Part is_exponent e → IsAscii e
 exponent-ascii [] part = ascii-nil
 exponent-ascii (c ∷ cs) part = ⊎_elim (λ none. absurd (cc))
     (λ h.
-      let parts = and_parts (is_mark Exponent c) (is_signed cs) h in
-      ascii-cons c cs (mark-ascii Exponent c parts.0) (signed-ascii cs parts.1))
+    let parts = and_parts (is_mark Exponent c) (is_signed cs) h in
+    ascii-cons c cs (mark-ascii Exponent c parts.0) (signed-ascii cs parts.1))
     part
 
 decimal-ascii : (text : List ℕ) → IsNumeral text → IsAscii text
