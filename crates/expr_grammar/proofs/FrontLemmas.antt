@@ -25,7 +25,7 @@ use Rattle.expr_grammar.specs.declared.token.Lexeme.TheVariants as lexeme
 use Rattle.expr_grammar.proofs.LongestLemmas.{longest-le}
 use Rattle.expr_grammar.proofs.WordLemmas.{word-boundary}
 use Rattle.expr_grammar.proofs.MarkedLemmas.{marked-boundary, ascii-nil, ascii-cons}
-use Rattle.expr_grammar.proofs.NumeralLemmas.{decimal-cut, decimal-some}
+use Rattle.expr_grammar.proofs.NumeralBytes.{decimal-cut, decimal-some}
 
 -- the text may be cut behind so many bytes, one at least
 pub record IsFront (text : List ℕ) (n : ℕ) : Type 0 where

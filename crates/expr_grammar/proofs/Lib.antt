@@ -5,5 +5,6 @@ pub mod WordLemmas
 pub mod MarkedLemmas
 pub mod DigitLemmas
 pub mod NumeralLemmas
+pub mod NumeralBytes
 pub mod LexedLemmas
 pub mod FrontLemmas

@@ -6,15 +6,12 @@ use Rattle.std.specs.List.{list_all}
 use Rattle.std.proofs.lemmas.Bool.{and_parts, and_from, or_right, both_ways, cases_lt, cases_Bool, cond-true, cond-false, false≢true}
 use Rattle.std.proofs.lemmas.Bool.Decides.{nat_tests}
 use Rattle.std.proofs.lemmas.List.{drop_at, get_or-take}
-use Rattle.std.specs.Str.{IsUtf8, IsAscii, IsCharBoundary}
-use Rattle.std.proofs.lemmas.Str.{IsAscii-append, IsUtf8-from_ascii, IsCharBoundary-from_take}
 use Rattle.quantities.specs.Decimals.{are_digits, before, behind, has, is_mark, is_mantissa, is_decimal, without_sign}
 use Rattle.quantities.specs.declared.mark.Mark.{Mark}
 use Rattle.quantities.specs.declared.mark.Mark.TheVariants.{Point, Exponent}
 use Rattle.expr_grammar.specs.Longest.{longest}
 use Rattle.expr_grammar.specs.NumeralParts.{is_fraction, is_signed, is_exponent}
 use Rattle.expr_grammar.proofs.LongestLemmas.{longest-is, longest-le, longest-passes, longest-front}
-use Rattle.expr_grammar.proofs.MarkedLemmas.{ascii-nil, ascii-cons}
 use Rattle.expr_grammar.proofs.DigitLemmas.{digits-some, digits-all, digits-stop, fraction-other}
 
 -- ---- what stands before and behind a mark
@@ -65,10 +62,10 @@ exponent-no_point c mark = grind (arith, nat_tests)
 -- ---- the parts
 
 -- such a part, or nothing
-abbrev Part : (List ℕ → Bool) → List ℕ → Type 0
+abbrev pub Part : (List ℕ → Bool) → List ℕ → Type 0
 Part test xs = (xs ≡ []) ⊎ (test xs ≡ true)
 
-record IsNumeral (text : List ℕ) : Type 0 where
+pub record IsNumeral (text : List ℕ) : Type 0 where
   pub whole : List ℕ
   pub fraction : List ℕ
   pub exponent : List ℕ
@@ -120,7 +117,7 @@ mantissa-parts text h =
     })
     (⊎_elim (λ e. inr e) (λ e. inl e) (cases_Bool (has Point text)))
 
-decimal-parts : (text : List ℕ) → is_ascii_digit (get_or text 0 0) ≡ true → is_decimal text ≡ true → IsNumeral text
+pub decimal-parts : (text : List ℕ) → is_ascii_digit (get_or text 0 0) ≡ true → is_decimal text ≡ true → IsNumeral text
 unfolding is_decimal
 decimal-parts text digit h =
     let plain = unsigned text digit in
@@ -301,11 +298,11 @@ digits-one : (text : List ℕ) → is_ascii_digit (get_or text 0 0) ≡ true →
 digits-one [] digit = absurd (false≢true digit)
 digits-one (c ∷ cs) digit = longest-front (are_digits 40) (c ∷ []) cs (ap (λ b. b && true) digit)
 
-decimal-empty : is_decimal [] ≡ false
+pub decimal-empty : is_decimal [] ≡ false
 unfolding is_decimal
 decimal-empty = refl
 
-front-digit : (m : ℕ) (text : List ℕ) → is_ascii_digit (get_or text 0 0) ≡ true → is_decimal (take m text) ≡ true → is_ascii_digit (get_or (take m text) 0 0) ≡ true
+pub front-digit : (m : ℕ) (text : List ℕ) → is_ascii_digit (get_or text 0 0) ≡ true → is_decimal (take m text) ≡ true → is_ascii_digit (get_or (take m text) 0 0) ≡ true
 front-digit zero text digit passes = absurd (both_ways _ decimal-empty passes)
 front-digit (suc m) text digit passes = ap is_ascii_digit (get_or-take (suc m) text 0 0 (omega arith)) ∙ digit
 
@@ -335,59 +332,3 @@ numeral-longest text digit =
         let low = reaches parts.whole parts.fraction parts.exponent (drop m text) parts.digits parts.fractional parts.exponential in
         let here = subst (λ t. length parts.whole + length parts.fraction + length parts.exponent ≤ whole_of t + fraction_of t + exponent_of t) (sym all) low in
         omega (arith, ap length parts.joined, length-append parts.whole (parts.fraction ++ parts.exponent), length-append parts.fraction parts.exponent, length-take m text)
-
--- ---- the bytes
-
--- each byte is ASCII
-digits-ascii : (ds : List ℕ) → list_all is_ascii_digit ds ≡ true → IsAscii ds
-digits-ascii [] all = ascii-nil
-digits-ascii (d ∷ ds) all =
-    let parts = and_parts (is_ascii_digit d) (list_all is_ascii_digit ds) all in
-    let digit : is_ascii_digit d ≡ true = parts.0 in
-    let low : d < 128 = grind (arith, nat_tests) in
-    ascii-cons d ds low (digits-ascii ds parts.1)
-
-mark-ascii : (mark : Mark) (c : ℕ) → is_mark mark c ≡ true → c < 128
-mark-ascii Point c mark = grind (arith, nat_tests)
-mark-ascii Exponent c mark = grind (arith, nat_tests)
-
-signed-ascii : (text : List ℕ) → is_signed text ≡ true → IsAscii text
-signed-ascii [] signed = ascii-nil
-signed-ascii (c ∷ cs) signed = ⊎_elim
-    (λ sign.
-    let low : c < 128 = grind (arith, nat_tests) in
-    ascii-cons c cs low (digits-ascii cs (digits-all 2 cs (ap (are_digits 2) (sym (cond-true ((c == 43) || (c == 45)) cs (c ∷ cs) sign)) ∙ signed))))
-    (λ other. digits-ascii (c ∷ cs) (digits-all 2 (c ∷ cs) (ap (are_digits 2) (sym (cond-false ((c == 43) || (c == 45)) cs (c ∷ cs) other)) ∙ signed)))
-    (cases_Bool ((c == 43) || (c == 45)))
-
-fraction-ascii : (f : List ℕ) → Part is_fraction f → IsAscii f
-fraction-ascii [] part = ascii-nil
-fraction-ascii (c ∷ cs) part = ⊎_elim (λ none. absurd (cc))
-    (λ h.
-    let parts = and_parts (is_mark Point c) (are_digits 40 cs) h in
-    ascii-cons c cs (mark-ascii Point c parts.0) (digits-ascii cs (digits-all 40 cs parts.1)))
-    part
-
-exponent-ascii : (e : List ℕ) → Part is_exponent e → IsAscii e
-exponent-ascii [] part = ascii-nil
-exponent-ascii (c ∷ cs) part = ⊎_elim (λ none. absurd (cc))
-    (λ h.
-    let parts = and_parts (is_mark Exponent c) (is_signed cs) h in
-    ascii-cons c cs (mark-ascii Exponent c parts.0) (signed-ascii cs parts.1))
-    part
-
-decimal-ascii : (text : List ℕ) → IsNumeral text → IsAscii text
-decimal-ascii text parts =
-    subst IsAscii (sym parts.joined)
-    (IsAscii-append parts.whole (parts.fraction ++ parts.exponent) (digits-ascii parts.whole (digits-all 40 parts.whole parts.digits))
-    (IsAscii-append parts.fraction parts.exponent (fraction-ascii parts.fraction parts.fractional) (exponent-ascii parts.exponent parts.exponential)))
-
--- a text may be cut behind a decimal in front
-pub decimal-cut : (text : List ℕ) (n : ℕ) → IsUtf8 text → n ≤ length text → is_ascii_digit (get_or text 0 0) ≡ true → is_decimal (take n text) ≡ true → IsCharBoundary text n
-decimal-cut text n utf8 within digit decimal =
-    IsCharBoundary-from_take text n utf8 within
-    (IsUtf8-from_ascii (take n text) (decimal-ascii (take n text) (decimal-parts (take n text) (front-digit n text digit decimal) decimal)))
-
-pub decimal-some : (text : List ℕ) (n : ℕ) → is_decimal (take n text) ≡ true → 0 < n
-decimal-some text zero decimal = absurd (both_ways _ decimal-empty decimal)
-decimal-some text (suc n) decimal = omega arith
