@@ -11,7 +11,7 @@ use Rattle.quantities.specs.Decimals.{are_digits, is_mark, without_sign}
 use Rattle.quantities.specs.declared.mark.Mark.TheVariants.{Point, Exponent}
 use Rattle.expr_grammar.specs.Longest.{longest}
 use Rattle.expr_grammar.specs.NumeralParts.{is_fraction, is_signed, is_exponent}
-use Rattle.expr_grammar.proofs.LongestLemmas.{longest-is, longest-none, longest-behind, longest-le, longest-most, longest-passes}
+use Rattle.expr_grammar.proofs.LongestFronts.{longest-is, longest-none, longest-behind, longest-le, longest-most, longest-passes}
 
 list_all-at : (p : ℕ → Bool) (xs : List ℕ) (i : ℕ) → list_all p xs ≡ true → i < length xs → p (get_or xs i 0) ≡ true
 list_all-at p [] i all below = absurd (omega arith)

@@ -1,10 +1,10 @@
 pub mod ReferenceLemmas
 pub mod NumberedLemmas
-pub mod LongestLemmas
+pub mod LongestFronts
 pub mod WordLemmas
 pub mod MarkedLemmas
 pub mod DigitLemmas
-pub mod NumeralLemmas
+pub mod ScannedNumerals
 pub mod NumeralBytes
 pub mod LexedLemmas
-pub mod FrontLemmas
+pub mod LexemeFronts

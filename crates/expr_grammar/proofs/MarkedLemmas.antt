@@ -9,7 +9,7 @@ use Rattle.fc_base.specs.Places.{Place, Spells, address_of, mark_text, column_te
 use Rattle.fc_base.proofs.AddressLemmas.{address_of-iff, before_row, written-parts, length-parts}
 use Rattle.expr_grammar.specs.Lexemes.{has_mark, is_marked_address}
 use Rattle.expr_grammar.specs.Longest.{longest}
-use Rattle.expr_grammar.proofs.LongestLemmas.{longest-le, longest-passes}
+use Rattle.expr_grammar.proofs.LongestFronts.{longest-le, longest-passes}
 
 -- a marked address spells a place
 marked-place : (text : List ℕ) → is_marked_address text ≡ true → (p : Place) × Spells text p

@@ -12,7 +12,7 @@ use Rattle.quantities.specs.declared.mark.Mark.TheVariants.{Point, Exponent}
 use Rattle.expr_grammar.specs.NumeralParts.{is_fraction, is_signed, is_exponent}
 use Rattle.expr_grammar.proofs.MarkedLemmas.{ascii-nil, ascii-cons}
 use Rattle.expr_grammar.proofs.DigitLemmas.{digits-all}
-use Rattle.expr_grammar.proofs.NumeralLemmas.{Part, IsNumeral, decimal-parts, front-digit, decimal-empty}
+use Rattle.expr_grammar.proofs.ScannedNumerals.{Part, IsNumeral, decimal-parts, front-digit, decimal-empty}
 
 -- each byte is ASCII
 digits-ascii : (ds : List ℕ) → list_all is_ascii_digit ds ≡ true → IsAscii ds

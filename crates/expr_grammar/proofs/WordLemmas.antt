@@ -10,7 +10,7 @@ use Rattle.unicode_ident.specs.Ident.{is_xid_continue}
 use Rattle.fc_base.specs.Texts.{begins_name, spells_name}
 use Rattle.expr_grammar.specs.Lexemes.{spells_word}
 use Rattle.expr_grammar.specs.Longest.{longest}
-use Rattle.expr_grammar.proofs.LongestLemmas.{longest-is, longest-le, longest-passes}
+use Rattle.expr_grammar.proofs.LongestFronts.{longest-is, longest-le, longest-passes}
 
 scalars-append : (cs ds : List ℕ) → scalars cs ≡ true → scalars ds ≡ true → scalars (cs ++ ds) ≡ true
 scalars-append [] ds first second = second

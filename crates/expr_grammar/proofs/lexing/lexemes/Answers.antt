@@ -2,7 +2,7 @@ use Rattle.std.proofs.Common.{◌≡◌, ◌-◌, ◌<◌, length, ap, sym, ◌�
 use Rattle.std.proofs.lemmas.Bool.Decides.{nat_tests}
 use Rattle.expr_grammar.specs.Lexemes.{lexed}
 use Rattle.expr_grammar.proofs.LexedLemmas.{passes_blank, takes_lexeme, stops, ends}
-use Rattle.expr_grammar.proofs.FrontLemmas.{lexeme-front}
+use Rattle.expr_grammar.proofs.LexemeFronts.{lexeme-front}
 use Rattle.expr_grammar.proofs.lexing.lexemes.Goals as goal
 
 pub loop-rest-preserved-in-Some : goal.loop-rest-preserved-in-Some

@@ -3,8 +3,8 @@ use Rattle.std.proofs.lemmas.List.{take_rest}
 use Rattle.quantities.specs.Decimals.{is_decimal}
 use Rattle.expr_grammar.specs.Longest.{longest}
 use Rattle.expr_grammar.specs.NumeralParts.{is_exponent, is_fraction}
-use Rattle.expr_grammar.proofs.LongestLemmas.{longest-le}
-use Rattle.expr_grammar.proofs.NumeralLemmas.{whole_of, fraction_of, exponent_of, numeral-longest}
+use Rattle.expr_grammar.proofs.LongestFronts.{longest-le}
+use Rattle.expr_grammar.proofs.ScannedNumerals.{whole_of, fraction_of, exponent_of, numeral-longest}
 use Rattle.expr_grammar.proofs.lexing.numeral.numeral_length.Goals as goal
 
 pub returns-clause-longest : goal.returns-clause-longest

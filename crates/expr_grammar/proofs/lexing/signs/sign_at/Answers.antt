@@ -3,7 +3,7 @@ use Rattle.std.specs.List.{starts_with}
 use Rattle.std.proofs.lemmas.Str.Pattern.{starts_text}
 use Rattle.expr_grammar.specs.Signs.{sign_text, signs}
 use Rattle.expr_grammar.specs.declared.sign.Sign.TheVariants.{Equal}
-use Rattle.expr_grammar.proofs.LongestLemmas.{find-drop_no}
+use Rattle.expr_grammar.proofs.LongestFronts.{find-drop_no}
 use Rattle.expr_grammar.proofs.lexing.signs.sign_at.Goals as goal
 
 pub loop-sign-preserved : goal.loop-sign-preserved

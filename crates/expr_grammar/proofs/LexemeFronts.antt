@@ -22,7 +22,7 @@ use Rattle.expr_grammar.specs.Lexemes.{numeral_of, numeral_at, of_length, spells
 use Rattle.expr_grammar.specs.declared.sign.Sign as s
 use Rattle.expr_grammar.specs.declared.token.Lexeme.{Lexeme}
 use Rattle.expr_grammar.specs.declared.token.Lexeme.TheVariants as lexeme
-use Rattle.expr_grammar.proofs.LongestLemmas.{longest-le}
+use Rattle.expr_grammar.proofs.LongestFronts.{longest-le}
 use Rattle.expr_grammar.proofs.WordLemmas.{word-boundary}
 use Rattle.expr_grammar.proofs.MarkedLemmas.{marked-boundary, ascii-nil, ascii-cons}
 use Rattle.expr_grammar.proofs.NumeralBytes.{decimal-cut, decimal-some}

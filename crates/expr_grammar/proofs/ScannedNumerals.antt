@@ -11,7 +11,7 @@ use Rattle.quantities.specs.declared.mark.Mark.{Mark}
 use Rattle.quantities.specs.declared.mark.Mark.TheVariants.{Point, Exponent}
 use Rattle.expr_grammar.specs.Longest.{longest}
 use Rattle.expr_grammar.specs.NumeralParts.{is_fraction, is_signed, is_exponent}
-use Rattle.expr_grammar.proofs.LongestLemmas.{longest-is, longest-le, longest-passes, longest-front}
+use Rattle.expr_grammar.proofs.LongestFronts.{longest-is, longest-le, longest-passes, longest-front}
 use Rattle.expr_grammar.proofs.DigitLemmas.{digits-some, digits-all, digits-stop, fraction-other}
 
 -- ---- what stands before and behind a mark
