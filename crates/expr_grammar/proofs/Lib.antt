@@ -33,3 +33,4 @@ pub mod ArgumentLemmas
 pub mod ArgumentNodes
 pub mod SpelledLemmas
 pub mod SpelledTrees
+pub mod NumeralBytes

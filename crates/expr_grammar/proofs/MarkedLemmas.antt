@@ -1,11 +1,11 @@
 -- Addresses with a mark: they are short, and their bytes are ASCII.
-use Rattle.std.proofs.Common.{◌≡◌, ℕ, zero, suc, ◌+◌, ◌-◌, ◌/◌, ◌%◌, ◌<◌, ◌≤◌, Bool, true, false, cond, List, [], ◌∷◌, ◌++◌, length, take, get_or, Option, Some, None, refl, sym, ap, subst, ◌∙◌, ⊎_elim, length-append, nat_le, arith}
+use Rattle.std.proofs.Common.{◌≡◌, ℕ, zero, suc, ◌+◌, ◌-◌, ◌/◌, ◌%◌, ◌<◌, ◌≤◌, Bool, true, false, List, [], ◌∷◌, ◌++◌, length, take, Some, None, refl, sym, ap, subst, ◌∙◌, ⊎_elim, length-append, nat_le, arith}
 use Rattle.std.specs.Fmt.{decimal}
 use Rattle.std.specs.Str.{IsUtf8, IsAscii, IsCharBoundary}
-use Rattle.std.proofs.lemmas.Bool.{false≢true, false_from_ne_true, cases_Bool, cases_lt, leb-true, leb-false, cond-true, cond-false}
+use Rattle.std.proofs.lemmas.Bool.{false≢true, cases_Bool, cases_lt, leb-true, cond-true, cond-false}
 use Rattle.std.proofs.lemmas.Fmt.{IsAscii-decimal}
 use Rattle.std.proofs.lemmas.Str.{IsAscii-append, IsUtf8-from_ascii, IsCharBoundary-start, IsCharBoundary-from_take}
-use Rattle.fc_base.specs.Places.{Place, Spells, IsPlace, address_of, address_text, mark_text, column_text}
+use Rattle.fc_base.specs.Places.{Place, Spells, address_of, mark_text, column_text}
 use Rattle.fc_base.proofs.AddressLemmas.{address_of-iff, before_row, written-parts, length-parts}
 use Rattle.expr_grammar.specs.Lexemes.{has_mark, is_marked_address}
 use Rattle.expr_grammar.specs.Longest.{longest}

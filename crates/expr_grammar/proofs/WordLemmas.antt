@@ -1,11 +1,11 @@
 -- The longest front of a text that spells a word, found character by character.
-use Rattle.std.proofs.Common.{◌≡◌, ℕ, ◌+◌, ◌-◌, ◌<◌, ◌≤◌, Bool, true, false, ◌&&◌, List, [], ◌∷◌, ◌++◌, length, take, drop, refl, sym, ap, subst, ◌∙◌, append_assoc, append-nil, length-append, length-take, take-append-drop, ⊎_elim, arith}
+use Rattle.std.proofs.Common.{◌≡◌, ℕ, ◌+◌, ◌-◌, ◌≤◌, Bool, true, false, List, [], ◌∷◌, ◌++◌, length, take, drop, refl, sym, ap, subst, ◌∙◌, append_assoc, length-append, length-take, take-append-drop, ⊎_elim, arith}
 use Rattle.std.proofs.Math.Utf8.{scalars, encodes, encode}
 use Rattle.std.specs.List.{list_all}
 use Rattle.std.specs.Str.{chars, is_utf8, IsUtf8, IsCharBoundary}
 use Rattle.std.proofs.lemmas.Bool.{and_parts, and_from, both_ways, cases_lt, false≢true}
-use Rattle.std.proofs.lemmas.List.{take_at, drop_at}
-use Rattle.std.proofs.lemmas.Str.{IsUtf8-from_is_utf8, is_utf8-from_IsUtf8, chars-encodes, encodes-chars, scalars-chars, encodes-append, encodes_same, cons_from_encodes, length-encode, len_utf8_bounds, IsCharBoundary-start, IsCharBoundary-from_take}
+use Rattle.std.proofs.lemmas.List.{take_at}
+use Rattle.std.proofs.lemmas.Str.{IsUtf8-from_is_utf8, is_utf8-from_IsUtf8, chars-encodes, encodes-chars, encodes-append, cons_from_encodes, length-encode, len_utf8_bounds, IsCharBoundary-start, IsCharBoundary-from_take}
 use Rattle.unicode_ident.specs.Ident.{is_xid_continue}
 use Rattle.fc_base.specs.Texts.{begins_name, spells_name}
 use Rattle.expr_grammar.specs.Lexemes.{spells_word}

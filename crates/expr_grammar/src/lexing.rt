@@ -8,6 +8,8 @@ ghost use Rattle.expr_grammar.specs.declared.lexing.LexFault.TheVariants.{Memory
 mod numeral;
 mod quoted;
 mod signs;
+#[cfg(test)]
+mod tests;
 mod word;
 
 use crate::token::{Lexeme, Placed};

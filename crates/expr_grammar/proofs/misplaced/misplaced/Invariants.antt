@@ -1,4 +1,4 @@
-use Rattle.std.proofs.Common.{◌≡◌, ◌≤◌, ◌<◌, ◌+◌, ◌^◌, map, length, option_copied}
+use Rattle.std.proofs.Common.{◌≡◌, ◌<◌, ◌+◌, ◌^◌, map, length, option_copied}
 use Rattle.expr_grammar.specs.Misplaced.{misplaced, misplaced_from}
 use Rattle.expr_grammar.proofs.misplaced.misplaced.Given as goal
 

@@ -1,4 +1,4 @@
-use Rattle.std.proofs.Common.{◌≡◌, ◌≤◌, false, true, length, get_or, arith}
+use Rattle.std.proofs.Common.{◌≡◌, false, true, get_or, arith}
 use Rattle.std.proofs.lemmas.Bool.Decides.{nat_tests}
 use Rattle.quantities.specs.Decimals.{is_mark}
 use Rattle.quantities.specs.declared.mark.Mark.TheVariants.{Exponent}

@@ -1,4 +1,4 @@
-use Rattle.std.proofs.Common.{◌≡◌, ◌≤◌, false, length, get_or, arith}
+use Rattle.std.proofs.Common.{◌≡◌, false, get_or, arith}
 use Rattle.std.proofs.lemmas.Bool.Decides.{nat_tests}
 use Rattle.quantities.specs.Decimals.{is_mark}
 use Rattle.quantities.specs.declared.mark.Mark.TheVariants.{Point}

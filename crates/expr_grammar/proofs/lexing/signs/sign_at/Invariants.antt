@@ -1,7 +1,7 @@
 use Rattle.std.proofs.Common.{◌≡◌, drop, nat_eq}
 use Rattle.std.specs.Prelude.{find}
 use Rattle.std.specs.List.{starts_with}
-use Rattle.expr_grammar.specs.Signs.{sign_at, sign_text, signs}
+use Rattle.expr_grammar.specs.Signs.{sign_text, signs}
 use Rattle.expr_grammar.proofs.lexing.signs.sign_at.Given as goal
 
 -- the signs that are left decide

@@ -1,8 +1,7 @@
-use Rattle.std.proofs.Common.{◌≡◌, ◌<◌, ◌≤◌, length, take, true, sym, ⊎_elim, arith}
+use Rattle.std.proofs.Common.{take, ⊎_elim, arith}
 use Rattle.std.proofs.lemmas.Bool.{false_from_ne_true, both_ways, cases_lt}
 use Rattle.std.proofs.lemmas.List.{length-take-le}
 use Rattle.expr_grammar.specs.Lexemes.{is_marked_address}
-use Rattle.expr_grammar.specs.Longest.{longest}
 use Rattle.expr_grammar.proofs.LongestFronts.{longest-is}
 use Rattle.expr_grammar.proofs.MarkedLemmas.{marked-short}
 use Rattle.expr_grammar.proofs.lexing.word.longest_marked.Goals as goal

@@ -1,4 +1,4 @@
-use Rattle.std.proofs.Common.{◌≡◌, sym, subst}
+use Rattle.std.proofs.Common.{sym, subst}
 use Rattle.std.specs.Str.{IsCharBoundary}
 use Rattle.expr_grammar.proofs.WordLemmas.{word-boundary}
 use Rattle.expr_grammar.proofs.lexing.word.word.Goals as goal

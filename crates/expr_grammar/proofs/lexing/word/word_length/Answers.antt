@@ -1,5 +1,4 @@
-use Rattle.std.proofs.Common.{◌≡◌, ◌-◌, ◌++◌, length, sym, ap, ◌∙◌, arith}
-use Rattle.std.proofs.Math.Utf8.{encode}
+use Rattle.std.proofs.Common.{◌-◌, length, sym, ap, ◌∙◌, arith}
 use Rattle.expr_grammar.proofs.WordLemmas.{no_word-empty, no_word-cut, word_front-begins, word_front-more, word_front-short, word_front-ends, word_front-cut}
 use Rattle.expr_grammar.proofs.lexing.word.word_length.Goals as goal
 

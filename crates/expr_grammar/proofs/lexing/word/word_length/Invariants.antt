@@ -1,6 +1,4 @@
-use Rattle.std.proofs.Common.{◌≡◌, length}
-use denote.Shadow.{shadow}
-use denote.Text.{Utf8}
+use Rattle.std.proofs.Common.{length}
 use Rattle.expr_grammar.proofs.WordLemmas.{IsWordFront}
 use Rattle.expr_grammar.proofs.lexing.word.word_length.Given as goal
 
