@@ -11,4 +11,6 @@ pub mod DescentComplete
 pub mod TreesRead
 pub mod OneTree
 pub mod LevelEquations
+pub mod JoinedLemmas
 pub mod ArgumentLemmas
+pub mod RenamingLemmas

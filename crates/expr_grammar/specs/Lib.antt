@@ -20,4 +20,6 @@ pub mod Parse
 pub mod Examples
 pub mod SignNumbers
 pub mod Descent
+pub mod Joined
 pub mod Reading
+pub mod Renaming
