@@ -7,8 +7,10 @@ use Rattle.expr_grammar.specs.declared.token.Token.{Token}
 use Rattle.expr_grammar.specs.Descent.{Parsed, ◌>>=◌, parsed, parsed_arguments, whole_readers, arguments_step, arguments_behind, behind_separator, area_in_front}
 use Rattle.expr_grammar.specs.Grammar.{expression}
 use Rattle.expr_grammar.specs.Levels.{arguments_of}
-use Rattle.expr_grammar.specs.Reading.{area_or_tree, argument_in_front, with_argument, joined, behind_arguments}
-use Rattle.expr_grammar.specs.Tree.{Tree, Arguments, no_more, tree, cells}
+use Rattle.expr_grammar.specs.Joined.{with_argument}
+use Rattle.expr_grammar.specs.Reading.{area_or_tree, argument_in_front, behind_arguments}
+use Rattle.expr_grammar.specs.Tree.{Tree, Arguments, no_more, tree}
+use Rattle.expr_grammar.proofs.JoinedLemmas.{joined-append, joined-no_more}
 use Rattle.expr_grammar.proofs.LevelEquations.{arguments_is}
 
 -- a tree, as an argument, and what follows it
@@ -24,21 +26,12 @@ front_step None ts = tree_step (parsed expression ts)
 arguments_front : (ts : List Token) → parsed_arguments ts ≡ (argument_in_front ts >>= λ x rest. arguments_behind whole_readers (with_argument x) rest)
 arguments_front ts = arguments_is ts ∙ front_step (area_in_front ts) ts
 
-joined-append : (xs : List Argument) (x : Argument) (more : Arguments) → joined (xs ++ x ∷ []) more ≡ joined xs (with_argument x more)
-joined-append [] x more = refl
-joined-append (y ∷ xs) x more = ap (with_argument y) (joined-append xs x more)
-
-joined-last : (xs : List Argument) → joined xs no_more ≡ arguments_of xs
-joined-last [] = refl
-joined-last (argument.Tree t ∷ xs) = ap (tree t) (joined-last xs)
-joined-last (argument.Cells area ∷ xs) = ap (cells area) (joined-last xs)
-
 pub argument_none : (xs : List Argument) (ts : List Token) → argument_in_front ts ≡ None → behind_arguments xs (parsed_arguments ts) ≡ None
 argument_none xs ts h = rw (arguments_front ts, h)
 
 pub argument_last : (xs : List Argument) (x : Argument) (ts rest : List Token) → argument_in_front ts ≡ Some (x, rest) → behind_separator rest ≡ None
     → behind_arguments xs (parsed_arguments ts) ≡ Some (arguments_of (xs ++ x ∷ []), rest)
-argument_last xs x ts rest h e = rw (arguments_front ts, h, e, ← joined-append xs x no_more, joined-last (xs ++ x ∷ []))
+argument_last xs x ts rest h e = rw (arguments_front ts, h, e, ← joined-append xs x no_more, joined-no_more (xs ++ x ∷ []))
 
 append_further : (xs : List Argument) (x : Argument) (p : Parsed Arguments)
     → behind_arguments xs (p >>= λ all rest. Some (with_argument x all, rest)) ≡ behind_arguments (xs ++ x ∷ []) p

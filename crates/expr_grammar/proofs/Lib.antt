@@ -29,8 +29,10 @@ pub mod ScannedNumerals
 pub mod LexedLemmas
 pub mod LexemeFronts
 pub mod LevelEquations
+pub mod JoinedLemmas
 pub mod ArgumentLemmas
 pub mod ArgumentNodes
 pub mod SpelledLemmas
 pub mod SpelledTrees
 pub mod NumeralBytes
+pub mod RenamingLemmas

@@ -25,4 +25,6 @@ pub mod PrintingLevels
 pub mod Examples
 pub mod SignNumbers
 pub mod Descent
+pub mod Joined
 pub mod Reading
+pub mod Renaming

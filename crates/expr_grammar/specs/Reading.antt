@@ -9,7 +9,8 @@ use Rattle.expr_grammar.specs.declared.expr.Argument.TheVariants as argument
 use Rattle.expr_grammar.specs.declared.operators.AggregateOp.{AggregateOp}
 use Rattle.expr_grammar.specs.Descent.{Parsed, ◌>>=◌, parsed, parsed_arguments, whole_readers, second_argument, with_bracket, behind_separator, area_in_front, of_all}
 use Rattle.expr_grammar.specs.Grammar.{expression}
-use Rattle.expr_grammar.specs.Tree.{Tree, aggregate, Arguments, tree, cells}
+use Rattle.expr_grammar.specs.Joined.{joined}
+use Rattle.expr_grammar.specs.Tree.{Tree, aggregate, Arguments}
 
 -- it read what there is to read, and left the tokens behind it; Syntax comes where there is none
 abbrev pub Gives : {A : Type 0} → Result A Stop → List Token → Parsed A → Type 0
@@ -54,16 +55,7 @@ area_or_tree None ts = parsed expression ts >>= λ t rest. Some (argument.Tree t
 abbrev pub argument_in_front : List Token → Parsed Argument
 argument_in_front ts = area_or_tree (area_in_front ts) ts
 
--- an argument in front of others
-abbrev pub with_argument : Argument → Arguments → Arguments
-with_argument (argument.Tree t) more = tree t more
-with_argument (argument.Cells area) more = cells area more
-
--- arguments, and others behind them
-abbrev pub joined : List Argument → Arguments → Arguments
-joined [] more = more
-joined (x ∷ xs) more = with_argument x (joined xs more)
-
+-- arguments in front of others
 abbrev pub behind_arguments : List Argument → Parsed Arguments → Parsed Arguments
 behind_arguments xs p = p >>= λ more rest. Some (joined xs more, rest)
 
