@@ -1,30 +1,3 @@
-<<<<<<<< HEAD:crates/expr_grammar/proofs/NumeralLemmas.antt
--- Printed numbers are read back: amounts and exponents.
-use Rattle.std.proofs.Common.{◌≡◌, ℕ, suc, ◌+◌, ◌*◌, ◌/◌, ◌^◌, ◌<◌, ◌≤◌, ℤ, pos, negsuc, true, false, ◌&&◌, nat_le, List, [], ◌∷◌, ◌++◌, length, get_or, Some, sym, ap, subst, ◌∙◌, unsigned_abs, length-append, arith}
-use Rattle.std.specs.Prelude.{int_le}
-use Rattle.std.specs.List.{list_all}
-use Rattle.std.specs.Char.{is_ascii_digit}
-use Rattle.std.specs.Fmt.{decimal, signed_decimal, sign_text}
-use Rattle.std.specs.Int.{is_negative}
-use Rattle.std.proofs.lemmas.Bool.{and_from, le-leb, cond-true}
-use Rattle.std.proofs.lemmas.Bool.Decides.{nat_tests}
-use Rattle.std.proofs.lemmas.Fmt.{decimal_nonempty, length-decimal-le}
-use Rattle.std.proofs.lemmas.List.Sums.{AllPass-from_list_all}
-use Rattle.std.proofs.Math.ListN.{get_or-append}
-use Rattle.quantities.specs.Decimals.{are_digits}
-use Rattle.quantities.specs.Texts.{billion, digits_below, without_final_zeros, behind_point, whole_text, decimal_text}
-use Rattle.quantities.proofs.ReadLemmas.{number_after-decimal}
-use Rattle.quantities.proofs.RoundTrip.{read_whole, decimal_value-decimal_text}
-use Rattle.quantities.proofs.TextLemmas as digits
-use Rattle.expr_grammar.specs.declared.sign.Sign.TheVariants as sign
-use Rattle.expr_grammar.specs.declared.token.Lexeme.{Lexeme}
-use Rattle.expr_grammar.specs.declared.token.Lexeme.TheVariants.{Numeral, Sign}
-use Rattle.expr_grammar.specs.Lexemes.{short_number}
-use Rattle.expr_grammar.specs.Spelled.{is_exponent, IsNumeral}
-use Rattle.expr_grammar.proofs.AlphabetLemmas.{begins_past}
-use Rattle.expr_grammar.proofs.ByteLemmas.{is_decimal_byte}
-use Rattle.expr_grammar.proofs.LexemeLemmas.{Lexes, lexes_numeral, lexes_minus}
-========
 -- A decimal with a digit in front is digits, then perhaps a fraction, then perhaps an exponent.
 use Rattle.std.proofs.Common.{◌≡◌, ℕ, zero, suc, ◌+◌, ◌<◌, ◌≤◌, Bool, true, false, cond, not, ◌&&◌, ◌||◌, ◌==◌, List, [], ◌∷◌, ◌++◌, length, take, drop, get_or, refl, sym, ap, subst, ◌∙◌, ◌⊎◌, inl, inr, ⊎_elim, append_assoc, append-nil, length-append, length-take, length-drop, take-append-drop, arith}
 use Rattle.std.proofs.Math.Seq.{take-add}
@@ -40,56 +13,54 @@ use Rattle.expr_grammar.specs.Longest.{longest}
 use Rattle.expr_grammar.specs.NumeralParts.{is_fraction, is_signed, is_exponent}
 use Rattle.expr_grammar.proofs.LongestFronts.{longest-is, longest-le, longest-passes, longest-front}
 use Rattle.expr_grammar.proofs.DigitLemmas.{digits-some, digits-all, digits-stop, fraction-other}
->>>>>>>> b093101635bc1a3ccacda64049e427813cc7fc27:crates/expr_grammar/proofs/ScannedNumerals.antt
 
-glyph_digit : (d : ℕ) → d < 10 → is_ascii_digit (48 + d) ≡ true
-glyph_digit d below = grind (arith, nat_tests)
+-- ---- what stands before and behind a mark
 
-all_digits : (n : ℕ) → n < 10 ^ 64 → list_all is_ascii_digit (decimal n) ≡ true
-all_digits n small = digits.list_all-decimal is_ascii_digit glyph_digit n small
+before-none : (mark : Mark) (text : List ℕ) → has mark text ≡ false → before mark text ≡ text
+before-none mark [] none = refl
+before-none mark (c ∷ cs) none =
+    elim (is_mark mark c) as (λ b. b || has mark cs ≡ false → cond b [] (c ∷ before mark cs) ≡ c ∷ cs)
+    [ true ↦ λ e. absurd (false≢true (sym e)) | false ↦ λ e. ap (λ (xs : List ℕ). c ∷ xs) (before-none mark cs e) ] none
 
-first_digit : (n : ℕ) → n < 2 ^ 64 → is_ascii_digit (get_or (decimal n) 0 0) ≡ true
-first_digit n small = AllPass-from_list_all is_ascii_digit (decimal n) (all_digits n (omega arith)) 0 0 (decimal_nonempty n small)
+-- a mark stands between them
+at-mark : (mark : Mark) (text : List ℕ) → has mark text ≡ true → (c : ℕ) × (is_mark mark c ≡ true) × (text ≡ before mark text ++ c ∷ behind mark text)
+at-mark mark [] some = absurd (false≢true some)
+at-mark mark (c ∷ cs) some =
+    elim (is_mark mark c) as (λ b. is_mark mark c ≡ b → b || has mark cs ≡ true → (d : ℕ) × (is_mark mark d ≡ true) × (c ∷ cs ≡ cond b [] (c ∷ before mark cs) ++ d ∷ cond b cs (behind mark cs))) [
+      | true ↦ λ e _. (c, e, refl)
+      | false ↦ λ _ rest. let found = at-mark mark cs rest in (found.0, found.1, ap (λ (xs : List ℕ). c ∷ xs) found.2)
+    ] refl some
 
--- ---- exponents
+-- a front without the mark changes nothing
+no-front : (mark : Mark) (front rest : List ℕ) → has mark front ≡ false
+    → (before mark (front ++ rest) ≡ front ++ before mark rest) × (behind mark (front ++ rest) ≡ behind mark rest) × (has mark (front ++ rest) ≡ has mark rest)
+no-front mark [] rest none = (refl, refl, refl)
+no-front mark (c ∷ cs) rest none =
+    elim (is_mark mark c) as (λ b. b || has mark cs ≡ false → (cond b [] (c ∷ before mark (cs ++ rest)) ≡ c ∷ (cs ++ before mark rest))
+    × (cond b (cs ++ rest) (behind mark (cs ++ rest)) ≡ behind mark rest) × (b || has mark (cs ++ rest) ≡ has mark rest)) [
+      | true ↦ λ e. absurd (false≢true (sym e))
+      | false ↦ λ e. let more = no-front mark cs rest e in (ap (λ (xs : List ℕ). c ∷ xs) more.0, more.1, more.2)
+    ] none
 
-short_decimal : (n : ℕ) → n < 100 → short_number (decimal n) ≡ Some n
-short_decimal n below =
-    let some : 1 ≤ length (decimal n) = decimal_nonempty n (omega arith) in
-    let few : length (decimal n) ≤ 2 = length-decimal-le 2 n (omega arith) (omega arith) (omega arith) in
-    cond-true (are_digits 2 (decimal n)) _ _
-    (and_from (nat_le 1 (length (decimal n)) && nat_le (length (decimal n)) 2) (list_all is_ascii_digit (decimal n))
-    (and_from (nat_le 1 (length (decimal n))) (nat_le (length (decimal n)) 2) (le-leb 1 (length (decimal n)) some) (le-leb (length (decimal n)) 2 few))
-    (all_digits n (omega arith)))
-    ∙ ap Some (number_after-decimal n (omega arith))
+digit-no_mark : (mark : Mark) (c : ℕ) → is_ascii_digit c ≡ true → is_mark mark c ≡ false
+digit-no_mark Point c digit = grind (arith, nat_tests)
+digit-no_mark Exponent c digit = grind (arith, nat_tests)
 
-lexes_digits : (n : ℕ) → n < 100 → (rest : List ℕ) {xs : List Lexeme} → begins_past is_decimal_byte rest ≡ true → Lexes rest xs
-    → Lexes (decimal n ++ rest) (Numeral (pos (n * billion)) (Some n) ∷ xs)
-lexes_digits n below rest {xs} past more =
-    subst (λ o. Lexes (decimal n ++ rest) (Numeral (pos (n * billion)) o ∷ xs)) (short_decimal n below)
-    (lexes_numeral (decimal n) rest (pos (n * billion)) (decimal_nonempty n (omega arith)) (first_digit n (omega arith))
-    (read_whole n (omega arith) false (omega arith)) past more)
+digits-no_mark : (mark : Mark) (ds : List ℕ) → list_all is_ascii_digit ds ≡ true → has mark ds ≡ false
+digits-no_mark mark [] all = refl
+digits-no_mark mark (d ∷ ds) all =
+    let parts = and_parts (is_ascii_digit d) (list_all is_ascii_digit ds) all in
+    ap (λ b. b || has mark ds) (digit-no_mark mark d parts.0) ∙ digits-no_mark mark ds parts.1
 
--- the lexemes of an exponent
-abbrev pub exponent_lexemes : ℤ → List Lexeme
-exponent_lexemes (pos n) = Numeral (pos (n * billion)) (Some n) ∷ []
-exponent_lexemes (negsuc n) = Sign sign.Minus ∷ Numeral (pos (suc n * billion)) (Some (suc n)) ∷ []
+mark-no_digit : (mark : Mark) (c : ℕ) → is_mark mark c ≡ true → is_ascii_digit c ≡ false
+mark-no_digit Point c mark = grind (arith, nat_tests)
+mark-no_digit Exponent c mark = grind (arith, nat_tests)
 
-below_100 : (n : ℕ) → is_exponent (pos n) ≡ true → n < 100
-below_100 n h = grind (arith, nat_tests)
+exponent-no_point : (c : ℕ) → is_mark Exponent c ≡ true → is_mark Point c ≡ false
+exponent-no_point c mark = grind (arith, nat_tests)
 
-below_99 : (n : ℕ) → is_exponent (negsuc n) ≡ true → suc n < 100
-below_99 n h = grind (arith, nat_tests)
+-- ---- the parts
 
-<<<<<<<< HEAD:crates/expr_grammar/proofs/NumeralLemmas.antt
-pub lexes_exponent : (n : ℤ) → is_exponent n ≡ true → (rest : List ℕ) {xs : List Lexeme} → begins_past is_decimal_byte rest ≡ true → Lexes rest xs
-    → Lexes (signed_decimal n ++ rest) (exponent_lexemes n ++ xs)
-lexes_exponent (pos n) h rest past more = lexes_digits n (below_100 n h) rest past more
-lexes_exponent (negsuc n) h rest past more =
-    lexes_minus (decimal (suc n) ++ rest) (lexes_digits (suc n) (below_99 n h) rest past more)
-
--- ---- amounts
-========
 -- such a part, or nothing
 abbrev pub Part : (List ℕ → Bool) → List ℕ → Type 0
 Part test xs = (xs ≡ []) ⊎ (test xs ≡ true)
@@ -102,30 +73,18 @@ pub record IsNumeral (text : List ℕ) : Type 0 where
   pub digits : are_digits 40 whole ≡ true
   pub fractional : Part is_fraction fraction
   pub exponential : Part is_exponent exponent
->>>>>>>> b093101635bc1a3ccacda64049e427813cc7fc27:crates/expr_grammar/proofs/ScannedNumerals.antt
 
-unsigned : (x : ℤ) → int_le (pos 0) x ≡ true → is_negative x ≡ false
-unsigned (pos n) h = grind (arith, nat_tests)
-unsigned (negsuc n) h = grind (arith, nat_tests)
+-- a digit in front is no sign
+unsigned : (text : List ℕ) → is_ascii_digit (get_or text 0 0) ≡ true → without_sign text ≡ text
+unsigned [] digit = refl
+unsigned (c ∷ cs) digit =
+    let other : ((c == 43) || (c == 45)) ≡ false = grind (arith, nat_tests) in
+    cond-false ((c == 43) || (c == 45)) cs (c ∷ cs) other
 
-first_of_amount : (x : ℤ) → IsNumeral x → (0 < length (decimal_text x)) × (is_ascii_digit (get_or (decimal_text x) 0 0) ≡ true)
-unfolding decimal_text whole_text
-first_of_amount x h =
-    let whole : ℕ = unsigned_abs x / billion in
-    let small : whole < 2 ^ 64 = omega (arith, h.amount) in
-    let fraction : List ℕ = behind_point (without_final_zeros (digits_below 9 (unsigned_abs x))) in
-    let text : decimal_text x ≡ decimal whole ++ fraction = ap (λ b. (sign_text b ++ decimal whole) ++ fraction) (unsigned x h.not_negative) in
-    let some : 0 < length (decimal whole) = decimal_nonempty whole small in
-    subst (λ (t : List ℕ). (0 < length t) × (is_ascii_digit (get_or t 0 0) ≡ true)) (sym text)
-    (omega (arith, length-append (decimal whole) fraction), ap is_ascii_digit (get_or-append (decimal whole) fraction 0 0 some) ∙ first_digit whole small)
+either : (there good : Bool) → (not there || good) ≡ true → (there ≡ false) ⊎ (good ≡ true)
+either true good h = inr h
+either false good h = inl refl
 
-<<<<<<<< HEAD:crates/expr_grammar/proofs/NumeralLemmas.antt
-pub lexes_amount : (x : ℤ) → IsNumeral x → (rest : List ℕ) {xs : List Lexeme} → begins_past is_decimal_byte rest ≡ true → Lexes rest xs
-    → Lexes (decimal_text x ++ rest) (Numeral x (short_number (decimal_text x)) ∷ xs)
-lexes_amount x h rest past more =
-    let first = first_of_amount x h in
-    lexes_numeral (decimal_text x) rest x first.0 first.1 (decimal_value-decimal_text x h.amount) past more
-========
 -- a mantissa is digits and perhaps a fraction
 record IsMantissa (text : List ℕ) : Type 0 where
   pub whole : List ℕ
@@ -373,4 +332,3 @@ numeral-longest text digit =
         let low = reaches parts.whole parts.fraction parts.exponent (drop m text) parts.digits parts.fractional parts.exponential in
         let here = subst (λ t. length parts.whole + length parts.fraction + length parts.exponent ≤ whole_of t + fraction_of t + exponent_of t) (sym all) low in
         omega (arith, ap length parts.joined, length-append parts.whole (parts.fraction ++ parts.exponent), length-append parts.fraction parts.exponent, length-take m text)
->>>>>>>> b093101635bc1a3ccacda64049e427813cc7fc27:crates/expr_grammar/proofs/ScannedNumerals.antt

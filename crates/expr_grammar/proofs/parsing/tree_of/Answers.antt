@@ -31,6 +31,6 @@ returns-in-Err-Syntax c =
     let none : of_all (parsed expression c.deref.result.now) ≡ None = grind (arith, common_steps) in
     let other : c.deref-in-Err-Syntax.result.now ≡ c.deref.result.now = grind (arith, common_steps) in
     let at : c.misplaced.result ≡ misplaced (map (λ x. x.place) c.args.lexemes.now) c.deref.result.now c.args.end =
-        c.misplaced.ensures ∙ ap (λ (z : List Token). misplaced (map (λ x. x.place) c.args.lexemes.now) z c.args.end) other in
+    c.misplaced.ensures ∙ ap (λ (z : List Token). misplaced (map (λ x. x.place) c.args.lexemes.now) z c.args.end) other in
     subst (λ (f : ParseFault). MeetsGrammar c.args.lexemes.now c.args.end (Err f)) (sym c.fault.ensures)
     (no-tree c.args.lexemes.now c.deref.result.now c.args.end c.misplaced.result same none at)
