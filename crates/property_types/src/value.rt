@@ -19,7 +19,7 @@ pub enum ValueFault {
 }
 
 /// What a slot holds: a number with its unit, a flag or a text.
-#[derive(Debug, Drop)]
+#[derive(Debug, PartialEq, Eq, Drop)]
 pub enum Value {
     Number(Quantity),
     Flag(bool),

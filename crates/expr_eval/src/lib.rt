@@ -1,0 +1,16 @@
+//! The sort of an expression, and its outcome for what its references give.
+#![tactic(auto)]
+
+mod aggregates;
+mod all_of;
+mod comparison;
+mod env;
+mod numbers;
+mod references;
+mod sort_cause;
+mod sort_rows;
+mod sorts;
+
+pub use env::Env;
+pub use sort_cause::{SortCause, SortFault, SortOutcome};
+pub use sorts::sort_of;
