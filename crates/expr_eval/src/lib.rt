@@ -5,6 +5,7 @@ mod aggregates;
 mod all_of;
 mod comparison;
 mod env;
+mod evaluation;
 mod numbers;
 mod references;
 mod sort_cause;
@@ -12,5 +13,6 @@ mod sort_rows;
 mod sorts;
 
 pub use env::Env;
+pub use evaluation::evaluate;
 pub use sort_cause::{SortCause, SortFault, SortOutcome};
 pub use sorts::sort_of;

@@ -30,11 +30,18 @@ pub fn number_of(outcome: &Outcome) -> Numeric
     }
 }
 
-/// The flag that an outcome is.
-pub fn flag_of(outcome: &Outcome) -> Result<bool, ValueFault>
-    ensures { result ≡ flag_of OutOfType outcome.now }
+/// The number that an outcome was.
+pub fn into_number(outcome: Outcome) -> Numeric
+    ensures { result ≡ number_of OutOfType outcome }
 {
-    match outcome {
+    number_of(&outcome)
+}
+
+/// The flag that an outcome was.
+pub fn into_flag(outcome: Outcome) -> Result<bool, ValueFault>
+    ensures { result ≡ flag_of OutOfType outcome }
+{
+    match &outcome {
         Ok(Value::Flag(flag)) => Ok(*flag),
         Ok(_) => Err(WRONG),
         Err(fault) => Err(*fault),
