@@ -1,3 +1,4 @@
 pub mod Gathering
 pub mod Totals
 pub mod UnitAmounts
+pub mod SpellingLemmas

@@ -5,3 +5,4 @@ pub mod Sorts
 pub mod Numbers
 pub mod Aggregates
 pub mod Outcomes
+pub mod Spelling

@@ -6,6 +6,7 @@ mod all_of;
 mod comparison;
 mod env;
 mod evaluation;
+pub mod laws;
 mod numbers;
 mod references;
 mod sort_cause;
