@@ -6,3 +6,4 @@ pub mod Numbers
 pub mod Aggregates
 pub mod Outcomes
 pub mod Spelling
+pub mod Kinds
