@@ -7,3 +7,4 @@ pub mod Aggregates
 pub mod Outcomes
 pub mod Spelling
 pub mod Kinds
+pub mod Examples

@@ -340,7 +340,7 @@ fn push_outcome(outcomes: &mut Vec<Outcome>, outcome: Outcome) -> Result<(), All
 
 /// How many cells an area has, expressions with the operations behind their operands, and their
 /// outcomes.
-static OUTCOMES: [(u32, &str, &str); 66] = [
+static OUTCOMES: [(u32, &str, &str); 73] = [
     (0, "2.5", "2.5 "),
     (0, "2.5:mm^2", "2.5 mm^2"),
     (0, "1:in", "25.4 mm"),
@@ -371,6 +371,13 @@ static OUTCOMES: [(u32, &str, &str); 66] = [
     (0, "1e19 neg 1e-9 -", "Range"),
     (0, "1 0 / 1e10 1e10 * +", "DivideByZero"),
     (0, "1e10 1e10 * 1 0 / +", "Range"),
+    (0, "7850:kg =m ^3 /", "0.00000785 mm^-3*kg"),
+    (0, "0.5 1000000000 /", "0.000000001 "),
+    (0, "0.5 neg 1000000000 /", "-0.000000001 "),
+    (0, "0.4 1000000000 /", "0 "),
+    (0, "1000000000 10000000000 *", "10000000000000000000 "),
+    (0, "=m", "1000 mm"),
+    (0, "\"a 1 ==", "false"),
     (0, "1.5:m floor", "1500 mm"),
     (0, "2.5 neg floor", "-3 "),
     (0, "2.5 neg ceil", "-2 "),
