@@ -1,5 +1,6 @@
 -- How a value is fitted to a type.
-use Rattle.std.specs.Prelude.{ℕ, ◌*◌, ◌%◌, ℤ, pos, Bool, true, ◌&&◌, not, ◌==◌, List, Option, Some, None, Ok, Err, unsigned_abs, int_le, if◌then◌else◌}
+use Rattle.std.specs.Prelude.{◌≡◌, ◌⊎◌, Result, ℕ, ◌*◌, ◌%◌, ℤ, pos, Bool, true, ◌&&◌, not, ◌==◌, List, Option, Some, None, Ok, Err, unsigned_abs, int_le, if◌then◌else◌}
+use Rattle.unit_signatures.specs.Units.{pure}
 use Rattle.quantities.specs.declared.quantity.Quantity.{Quantity}
 use Rattle.property_types.specs.declared.prop_type.PropType.{PropType}
 use Rattle.property_types.specs.declared.prop_type.Sort.{Sort}
@@ -7,7 +8,10 @@ use Rattle.property_types.specs.declared.prop_type.Sort.TheVariants as s
 use Rattle.property_types.specs.declared.value.Value.{Value}
 use Rattle.property_types.specs.declared.value.Value.TheVariants.{Number, Flag, Text}
 use Rattle.property_types.specs.declared.value.ValueFault.TheVariants.{NotWhole, OutOfType}
+use Rattle.property_types.specs.declared.fit.FitFault.{FitFault}
+use Rattle.property_types.specs.declared.fit.FitFault.TheVariants.{Fault, Memory}
 use Rattle.property_types.specs.Values.{Outcome}
+use Rattle.property_types.specs.Sorts.{sort_of_value}
 use Rattle.property_types.specs.Types.{sort_of_type, is_whole_type, is_not_negative_type, greatest_of_type}
 
 -- an amount, in billionths, without a fraction
@@ -41,3 +45,29 @@ abbrev pub fit : PropType → Value → Outcome
 fit t (Number q) = fit_number t (sort_of_type t) q
 fit t (Flag b) = Ok (Flag b)
 fit t (Text text) = Ok (Text text)
+
+-- a number of the unit, or a pure one
+abbrev pub CanFitNumber : Sort → Quantity → Type 0
+CanFitNumber (s.Number u) q = (q.unit ≡ u) ⊎ (q.unit ≡ pure)
+CanFitNumber s.Flag q = ⊥
+CanFitNumber s.Text q = ⊥
+
+-- a value of the type's sort, or a pure number where the type has numbers
+abbrev pub CanFit : PropType → Value → Type 0
+CanFit t (Number q) = CanFitNumber (sort_of_type t) q
+CanFit t (Flag b) = sort_of_type t ≡ s.Flag
+CanFit t (Text text) = sort_of_type t ≡ s.Text
+
+-- a fit as a call tells it; want of memory says nothing of the value
+abbrev pub FitsAs : Outcome → Result Value FitFault → Type 0
+FitsAs fitted (Ok v) = fitted ≡ Ok v
+FitsAs fitted (Err (Fault f)) = fitted ≡ Err f
+FitsAs fitted (Err (Memory e)) = Unit {0}
+
+-- what is fitted has the sort of the type
+abbrev pub FittedHasSort : Type 0
+FittedHasSort = (t : PropType) (v w : Value) → CanFit t v → fit t v ≡ Ok w → sort_of_value w ≡ sort_of_type t
+
+-- what is fitted fits as it is
+abbrev pub FitsOnce : Type 0
+FitsOnce = (t : PropType) (v w : Value) → fit t v ≡ Ok w → fit t w ≡ Ok w

@@ -1,6 +1,6 @@
 -- The types of properties: names, sorts, zero values and ranges.
-use Rattle.std.specs.Prelude.{ℕ, ℤ, pos, negsuc, Bool, true, false, List, [], ◌∷◌, Option, Some, None}
-use Rattle.std.specs.Prelude.{codes}
+use Rattle.std.specs.Prelude.{◌≡◌, ◌≢◌, ℕ, ℤ, pos, negsuc, Bool, true, false, List, [], ◌∷◌, Option, Some, None, codes, if◌then◌else◌}
+use Rattle.std.specs.Str.{bytes_eq}
 use Rattle.unit_signatures.specs.Units.{pure}
 use Rattle.property_types.specs.declared.prop_type.PropType.{PropType}
 use Rattle.property_types.specs.declared.prop_type.PropType.TheVariants.{Float, Integer, Percent, Bool as Boolean, String, Length, Distance, Angle, Area, Volume, Mass, Time, Speed, Force, Pressure, Density, Placement, Turn}
@@ -54,6 +54,25 @@ type_name_of Pressure = codes "App::PropertyPressure"
 type_name_of Density = codes "App::PropertyDensity"
 type_name_of Placement = codes "App::PropertyPlacement"
 type_name_of Turn = []
+
+-- the types of properties
+abbrev pub types_of_properties : List PropType
+types_of_properties =
+    Float ∷ Integer ∷ Percent ∷ Boolean ∷ String ∷ Length ∷ Distance ∷ Angle ∷ Area ∷ Volume ∷ Mass ∷ Time ∷ Speed
+    ∷ Force ∷ Pressure ∷ Density ∷ Placement ∷ []
+
+-- the first type of a list that has the name
+abbrev pub first_named : List ℕ → List PropType → Option PropType
+first_named name [] = None
+first_named name (t ∷ ts) = if bytes_eq name (type_name_of t) then Some t else first_named name ts
+
+-- the type of properties that has the name
+abbrev pub type_named : List ℕ → Option PropType
+type_named name = first_named name types_of_properties
+
+-- each type of properties is the one that its name names
+abbrev pub NamesAreRead : Type 0
+NamesAreRead = (t : PropType) → t ≢ Turn → type_named (type_name_of t) ≡ Some t
 
 -- the zero of a sort: 0, false or the empty text
 abbrev pub zero_of_sort : Sort → Value

@@ -1,5 +1,8 @@
+ghost use Rattle.std.specs.Prelude.{◌≡◌, IfOk};
+
 use fc_base::TextValue;
 use quantities::Quantity;
+use std::alloc::{AllocError, Global};
 
 /// Why a slot has no value.
 #[derive(Clone, Copy, Debug, PartialEq, Eq)]
@@ -16,7 +19,7 @@ pub enum ValueFault {
 }
 
 /// What a slot holds: a number with its unit, a flag or a text.
-#[derive(Debug, Drop)]
+#[derive(Debug, PartialEq, Eq, Drop)]
 pub enum Value {
     Number(Quantity),
     Flag(bool),
@@ -25,3 +28,26 @@ pub enum Value {
 
 /// What a rule gives a slot: a value, or why there is none.
 pub type Outcome = Result<Value, ValueFault>;
+
+impl Value {
+    /// An equal value.
+    pub fn copy(&self, alloc: Global) -> Result<Value, AllocError>
+        ensures { IfOk result (λ value. value ≡ self.now) }
+    {
+        match self {
+            Value::Number(number) => Ok(Value::Number(*number)),
+            Value::Flag(flag) => Ok(Value::Flag(*flag)),
+            Value::Text(text) => Ok(Value::Text(text.copy(alloc)?)),
+        }
+    }
+}
+
+/// An equal outcome.
+pub fn copy_outcome(alloc: Global, outcome: &Outcome) -> Result<Outcome, AllocError>
+    ensures { IfOk result (λ copy. copy ≡ outcome.now) }
+{
+    match outcome {
+        Ok(value) => Ok(Ok(value.copy(alloc)?)),
+        Err(fault) => Ok(Err(*fault)),
+    }
+}

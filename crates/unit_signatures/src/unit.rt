@@ -1,4 +1,5 @@
-ghost use Rattle.std.specs.Prelude.{◌≡◌};
+ghost use Rattle.std.specs.Prelude.{◌≡◌, IsTrue};
+ghost use Rattle.std.specs.List.{list_all};
 ghost use Rattle.unit_signatures.specs.Products.{differences, multiples, power_of, product, quotient, sums, within};
 ghost use Rattle.unit_signatures.specs.Units.{is_exponent, pure};
 
@@ -36,6 +37,14 @@ impl Unit {
         ensures { result ≡ pure }
     {
         Unit { exponents: [0; 8] }
+    }
+
+    /// The unit of these exponents, each -8 to 7.
+    pub const fn of(exponents: [i8; 8]) -> Unit
+        requires { IsTrue (list_all is_exponent exponents) }
+        ensures { result ≡ exponents }
+    {
+        Unit { exponents }
     }
 
     /// The unit of a product; `ExponentRange` exactly where an exponent leaves -8 to 7.

@@ -1,0 +1,137 @@
+ghost use Rattle.std.specs.Prelude.{◌≡◌, ◌+◌, ◌-◌, ◌<◌, ◌≤◌, ◌^◌, ◌++◌, map, min, IfOk, OnOk};
+ghost use Rattle.expr_grammar.specs.Nodes.{node_count};
+ghost use Rattle.expr_grammar.specs.References.{reference_count};
+ghost use Rattle.property_types.specs.declared.value.ValueFault.TheVariants.{OutOfType};
+ghost use Rattle.expr_eval.specs.Aggregates.{aggregate_outcome};
+ghost use Rattle.expr_eval.specs.Firsts.{all_of, on_one};
+ghost use Rattle.expr_eval.specs.Numbers.{number_of};
+ghost use Rattle.expr_eval.specs.Outcomes.{outcome_of};
+
+use crate::aggregates::aggregate_outcome;
+use crate::all_of::all_of;
+use crate::comparison::compared;
+use crate::env::Env;
+use crate::numbers::{
+    Numeric, binary_outcome, function_outcome, into_flag, into_number, literal_outcome, negated,
+    number_of, power_outcome, unit_outcome,
+};
+use crate::references::reference_count;
+use expr_grammar::{AggregateOp, Argument, BinaryOp, Expr, Node};
+use fc_base::Steps;
+use property_types::{Outcome, Value, copy_outcome};
+use std::alloc::{AllocError, Global};
+
+/// The outcome of an expression with fewer than 2^32 references, for what stands behind them: the
+/// first fault from the left, or the value. Of a conditional only the arm that is chosen counts.
+/// Each node that is visited is one step: at least one, and at most as many as there are nodes.
+pub fn evaluate<E: Env, L>(
+    alloc: Global,
+    tree: &Expr,
+    env: &E,
+    steps: &mut Steps<L>,
+) -> Result<Outcome, AllocError>
+    requires { reference_count tree.now < 2 ^ 32 }
+    ensures outcome { IfOk result (λ o. o ≡ outcome_of (E.reading env.now) 0 tree.now) }
+    ensures at_least { min (steps.old + 1) (2 ^ 64 - 1) ≤ steps.new }
+    ensures at_most { steps.new ≤ min (steps.old + node_count tree.now) (2 ^ 64 - 1) }
+{
+    evaluate_from(alloc, tree, env, 0, steps)
+}
+
+/// The outcome of a tree whose first reference is the `first` one of the expression.
+fn evaluate_from<E: Env, L>(
+    alloc: Global,
+    tree: &Expr,
+    env: &E,
+    first: u32,
+    steps: &mut Steps<L>,
+) -> Result<Outcome, AllocError>
+    requires { first + reference_count tree.now < 2 ^ 32 }
+    ensures outcome { IfOk result (λ o. o ≡ outcome_of (E.reading env.now) first tree.now) }
+    ensures at_least { min (steps.old + 1) (2 ^ 64 - 1) ≤ steps.new }
+    ensures at_most { steps.new ≤ min (steps.old + node_count tree.now) (2 ^ 64 - 1) }
+{
+    steps.tick();
+    match &tree.node {
+        Node::Literal(amount, unit) => Ok(literal_outcome(*amount, unit)),
+        Node::UnitOne(name) => Ok(unit_outcome(name)),
+        Node::Flag(flag) => Ok(Ok(Value::Flag(*flag))),
+        Node::Text(text) => Ok(Ok(Value::Text(text.copy(alloc)?))),
+        Node::Path(_) => copy_outcome(alloc, env.outcome_at(first)),
+        Node::Negate(a) => {
+            let operand = evaluate_from(alloc, a, env, first, steps)?;
+            Ok(negated(into_number(operand)))
+        }
+        Node::Binary(op, a, b) => {
+            let left = evaluate_from(alloc, a, env, first, steps)?;
+            let right = evaluate_from(alloc, b, env, first + reference_count(a), steps)?;
+            Ok(binary_outcome(*op, into_number(left), into_number(right)))
+        }
+        Node::Power(a, exponent) => {
+            let operand = evaluate_from(alloc, a, env, first, steps)?;
+            Ok(power_outcome(*exponent, into_number(operand)))
+        }
+        Node::Compare(op, a, b) => {
+            let left = evaluate_from(alloc, a, env, first, steps)?;
+            let right = evaluate_from(alloc, b, env, first + reference_count(a), steps)?;
+            Ok(compared(*op, &left, &right))
+        }
+        Node::Conditional(c, a, b) => {
+            let condition = evaluate_from(alloc, c, env, first, steps)?;
+            let second = first + reference_count(c);
+            match into_flag(condition) {
+                Ok(true) => evaluate_from(alloc, a, env, second, steps),
+                Ok(false) => evaluate_from(alloc, b, env, second + reference_count(a), steps),
+                Err(fault) => Ok(Err(fault)),
+            }
+        }
+        Node::Function(op, a) => {
+            let operand = evaluate_from(alloc, a, env, first, steps)?;
+            Ok(function_outcome(*op, into_number(operand)))
+        }
+        Node::Modulo(a, b) => {
+            let left = evaluate_from(alloc, a, env, first, steps)?;
+            let right = evaluate_from(alloc, b, env, first + reference_count(a), steps)?;
+            Ok(binary_outcome(BinaryOp::Modulo, into_number(left), into_number(right)))
+        }
+        Node::Aggregate(op, all) => {
+            let mut items = Vec::new(alloc);
+            let mut next = first;
+            for argument in all {
+                match argument {
+                    Argument::Tree(part) => {
+                        let outcome = evaluate_from(alloc, part, env, next, steps)?;
+                        items.push(into_number(outcome))?;
+                        next += reference_count(part);
+                    }
+                    Argument::Cells(_) => {
+                        push_cells(env, next, &mut items)?;
+                        next += 1;
+                    }
+                }
+            }
+            aggregated(alloc, *op, &items)
+        }
+    }
+}
+
+/// Adds the numbers of an area's filled cells.
+fn push_cells<E: Env>(env: &E, area: u32, items: &mut Vec<Numeric>) -> Result<(), AllocError>
+    ensures { OnOk result (items.new.items ≡ items.old.items ++ map (number_of OutOfType) ((E.reading env.now).inside area)) }
+{
+    for cell in env.area_at(area) {
+        items.push(number_of(env.outcome_of_cell(*cell)))?;
+    }
+    Ok(())
+}
+
+/// The outcome of a function of many numbers on these.
+fn aggregated(alloc: Global, op: AggregateOp, items: &[Numeric]) -> Result<Outcome, AllocError>
+    ensures { IfOk result (λ o. o ≡ on_one (aggregate_outcome op) (all_of items.now)) }
+{
+    let numbers = all_of(alloc, items)?;
+    match &numbers {
+        Ok(numbers) => Ok(aggregate_outcome(op, numbers)),
+        Err(fault) => Ok(Err(*fault)),
+    }
+}

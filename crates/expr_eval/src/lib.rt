@@ -1,0 +1,22 @@
+//! The sort of an expression, and its outcome for what its references give.
+#![tactic(auto)]
+
+mod aggregates;
+mod all_of;
+mod comparison;
+mod env;
+mod evaluation;
+pub mod laws;
+mod numbers;
+mod references;
+mod sort_cause;
+mod sort_rows;
+mod sorts;
+#[cfg(test)]
+mod tests;
+
+pub use env::Env;
+pub use evaluation::evaluate;
+pub use references::reference_count;
+pub use sort_cause::{SortCause, SortFault, SortOutcome};
+pub use sorts::sort_of;

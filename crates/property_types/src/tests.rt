@@ -1,0 +1,219 @@
+use super::*;
+use arrayvec::ArrayString;
+use fc_base::{Name, SlotId, TextValue};
+use quantities::{Amount, Quantity};
+use std::alloc::Global;
+use std::test::Fail;
+use unit_signatures::{Unit, unit_named};
+
+/// 1, in billionths.
+const ONE: i128 = 1_000_000_000;
+
+/// Types, the billionths and the unit of a number, and the billionths that are its value, if any.
+static FITS: [(&str, i128, &str, Result<i128, ValueFault>); 31] = [
+    ("App::PropertyFloat", -1, "", Ok(-1)),
+    ("App::PropertyInteger", -3 * ONE, "", Ok(-3 * ONE)),
+    ("App::PropertyInteger", 1, "", Err(ValueFault::NotWhole)),
+    (
+        "App::PropertyInteger",
+        ONE - 1,
+        "",
+        Err(ValueFault::NotWhole),
+    ),
+    ("App::PropertyPercent", 0, "", Ok(0)),
+    ("App::PropertyPercent", 100 * ONE, "", Ok(100 * ONE)),
+    ("App::PropertyPercent", -1, "", Err(ValueFault::NotWhole)),
+    ("App::PropertyPercent", -ONE, "", Err(ValueFault::OutOfType)),
+    (
+        "App::PropertyPercent",
+        101 * ONE,
+        "",
+        Err(ValueFault::OutOfType),
+    ),
+    (
+        "App::PropertyPercent",
+        100 * ONE + 1,
+        "",
+        Err(ValueFault::NotWhole),
+    ),
+    ("App::PropertyLength", 0, "mm", Ok(0)),
+    ("App::PropertyLength", 5, "", Ok(5)),
+    ("App::PropertyLength", -1, "mm", Err(ValueFault::OutOfType)),
+    ("App::PropertyDistance", -1, "mm", Ok(-1)),
+    ("App::PropertyDistance", -1, "", Ok(-1)),
+    ("App::PropertyAngle", -400 * ONE, "deg", Ok(-400 * ONE)),
+    ("App::PropertyArea", 0, "", Ok(0)),
+    ("App::PropertyArea", -1, "", Err(ValueFault::OutOfType)),
+    ("App::PropertyVolume", 7, "l", Ok(7)),
+    ("App::PropertyVolume", -7, "l", Err(ValueFault::OutOfType)),
+    ("App::PropertyMass", -2, "kg", Ok(-2)),
+    ("App::PropertyTime", -2, "s", Ok(-2)),
+    ("App::PropertySpeed", -2, "", Ok(-2)),
+    ("App::PropertyForce", -2, "N", Ok(-2)),
+    ("App::PropertyPressure", -2, "Pa", Ok(-2)),
+    ("App::PropertyDensity", -2, "", Ok(-2)),
+    ("the turn", 0, "", Ok(0)),
+    ("the turn", 23 * ONE, "", Ok(23 * ONE)),
+    ("the turn", 24 * ONE, "", Err(ValueFault::OutOfType)),
+    ("the turn", -ONE, "", Err(ValueFault::OutOfType)),
+    ("the turn", ONE / 2, "", Err(ValueFault::NotWhole)),
+];
+
+/// The names of the types, and the text of the unit of each type of numbers.
+static UNITS: [(&str, &str); 14] = [
+    ("App::PropertyFloat", ""),
+    ("App::PropertyInteger", ""),
+    ("App::PropertyPercent", ""),
+    ("App::PropertyLength", "mm"),
+    ("App::PropertyDistance", "mm"),
+    ("App::PropertyAngle", "deg"),
+    ("App::PropertyArea", "mm^2"),
+    ("App::PropertyVolume", "mm^3"),
+    ("App::PropertyMass", "kg"),
+    ("App::PropertyTime", "s"),
+    ("App::PropertySpeed", "mm*s^-1"),
+    ("App::PropertyForce", "mm*kg*s^-2"),
+    ("App::PropertyPressure", "mm^-1*kg*s^-2"),
+    ("App::PropertyDensity", "mm^-3*kg"),
+];
+
+fn type_of(name: &str) -> Result<PropType, Fail> {
+    if name == "the turn" {
+        Ok(PropType::Turn)
+    } else {
+        Ok(PropType::named(name).ok_or("no type")?)
+    }
+}
+
+fn number(raw: i128, unit: &str) -> Result<Value, Fail> {
+    let amount = Amount::of_raw(raw).map_err(|_| "out of range")?;
+    let unit = if unit.is_empty() {
+        Unit::pure()
+    } else {
+        unit_named(unit).ok_or("no unit")?.1
+    };
+    Ok(Value::Number(Quantity { amount, unit }))
+}
+
+/// The billionths that a number is fitted to, and the fault; the unit has to be the type's.
+fn fitted(alloc: Global, prop: &PropType, value: &Value) -> Result<Result<i128, ValueFault>, Fail> {
+    if *prop == PropType::Placement {
+        return Err(Fail::new("a placement"));
+    }
+    let given = prop.fit(alloc, value);
+    match &given {
+        Ok(Value::Number(q)) if Sort::Number(q.unit) == prop.sort() => Ok(Ok(q.amount.raw())),
+        Ok(_) => Err(Fail::new("not in the type's unit")),
+        Err(FitFault::Fault(fault)) => Ok(Err(*fault)),
+        Err(FitFault::Memory(_)) => Err(Fail::new("out of memory")),
+    }
+}
+
+#[test]
+fn fits_numbers(rt: HostRuntime) -> Result<(), Fail> {
+    for (name, raw, unit, want) in &FITS {
+        let value = number(*raw, unit)?;
+        let given = fitted(rt.alloc(), &type_of(name)?, &value)?;
+        assert!(rt; given == *want, "{name} {raw}");
+    }
+    Ok(())
+}
+
+#[test]
+fn names_types_and_units(rt: HostRuntime) -> Result<(), Fail> {
+    for (name, unit) in &UNITS {
+        let prop = type_of(name)?;
+        if prop == PropType::Turn || prop == PropType::Placement {
+            return Err(Fail::new("no type of one slot"));
+        }
+        assert_eq!(rt; prop.type_name(), *name);
+        let mut text = ArrayString::new();
+        match prop.sort() {
+            Sort::Number(of) => of.write(&mut text),
+            _ => return Err(Fail::new("no type of numbers")),
+        }
+        assert_eq!(rt; text.as_str(), *unit, "{name}");
+    }
+    for name in [
+        "App::PropertyFloats",
+        "PropertyFloat",
+        "app::PropertyFloat",
+        "",
+    ] {
+        assert!(rt; PropType::named(name).is_none(), "{name}");
+    }
+    Ok(())
+}
+
+#[test]
+fn copies_plans(rt: HostRuntime) -> Result<(), Fail> {
+    let alloc = rt.alloc();
+    let mut inputs = Vec::new(alloc);
+    inputs.push(InputPlan {
+        name: Name::read(alloc, "Width")?,
+        prop: PropType::Length,
+        default: number(100 * ONE, "mm")?,
+    })?;
+    let mut outputs = Vec::new(alloc);
+    outputs.push(OutputPlan {
+        name: Name::read(alloc, "Opening")?,
+        prop: PropType::Area,
+    })?;
+    let plan = SlotPlan {
+        type_name: TextValue::read(alloc, "Fc::Frame")?,
+        inputs,
+        outputs,
+        placed: false,
+        members: false,
+    };
+    let copy = plan.copy(alloc)?;
+    assert_eq!(rt; copy.type_name.as_str(), "Fc::Frame");
+    assert_eq!(rt; copy.inputs.len(), 1);
+    assert!(rt; copy.outputs[0].prop == PropType::Area);
+    Ok(())
+}
+
+#[test]
+fn copies_outcomes(rt: HostRuntime) -> Result<(), Fail> {
+    let alloc = rt.alloc();
+    let text = Value::Text(TextValue::read(alloc, "a text")?);
+    match copy_outcome(alloc, &Ok(text))? {
+        Ok(Value::Text(text)) => assert_eq!(rt; text.as_str(), "a text"),
+        _ => return Err(Fail::new("no text")),
+    }
+    match copy_outcome(alloc, &Err(ValueFault::NotWhole))? {
+        Err(fault) => assert!(rt; fault == ValueFault::NotWhole),
+        Ok(_) => return Err(Fail::new("a value")),
+    }
+    Ok(())
+}
+
+/// Outcomes of the first slots, by their numbers.
+#[derive(Drop)]
+struct FirstOutcomes {
+    outcomes: Vec<Outcome>,
+}
+
+impl Outcomes for FirstOutcomes {
+    ghost use Rattle.std.specs.Prelude.{slice_get};
+
+    ghost outcomes = { λ o slot. slice_get o.outcomes.items slot.0 };
+
+    fn outcome(&self, slot: SlotId) -> Option<&Outcome> {
+        self.outcomes.get(slot.0 as usize)
+    }
+}
+
+fn has_outcome<O: Outcomes>(outcomes: &O, slot: SlotId) -> bool {
+    outcomes.outcome(slot).is_some()
+}
+
+#[test]
+fn keeps_outcomes(rt: HostRuntime) -> Result<(), Fail> {
+    let mut outcomes = Vec::new(rt.alloc());
+    outcomes.push(Err(ValueFault::Range))?;
+    let kept = FirstOutcomes { outcomes };
+    assert!(rt; has_outcome(&kept, SlotId(0)));
+    assert!(rt; !has_outcome(&kept, SlotId(1)));
+    Ok(())
+}
