@@ -20,6 +20,8 @@ mod printing;
 mod renaming;
 mod sign;
 mod stop;
+#[cfg(test)]
+mod tests;
 mod token;
 
 pub use expr::{Argument, Expr, Node, UnitPower};
