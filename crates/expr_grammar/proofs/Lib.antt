@@ -13,3 +13,4 @@ pub mod ReadBack
 pub mod ArgumentNodes
 pub mod SpelledLemmas
 pub mod SpelledTrees
+pub mod BracketLemmas

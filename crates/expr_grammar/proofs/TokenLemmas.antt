@@ -200,7 +200,7 @@ fits_from_base t h =
     elim (is_measure t) as (λ b. (if b then false else fits powers t) ≡ true → fits powers t ≡ true)
     [ true ↦ λ e. absurd (false≢true e) | false ↦ λ e. e ] h
 
-base : (t : Tree) → HasTree (level_of t) (tree_tokens t) t → HasTree powers (bracketed_tokens (fits_as_base t) (tree_tokens t)) t
+pub base : (t : Tree) → HasTree (level_of t) (tree_tokens t) t → HasTree powers (bracketed_tokens (fits_as_base t) (tree_tokens t)) t
 base t h = at_level powers (fits_as_base t) (λ e. at_looser powers (level_of t) (fits_from_base t e) h) (as_expression t h)
 
 bare_base : (t : Tree) → HoldsExponent (bracketed_tokens (fits_as_base t) (tree_tokens t)) → ⊥

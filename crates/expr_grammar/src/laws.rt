@@ -1,4 +1,5 @@
 //! Laws of the definitions, each as the contract of a function with nothing to do.
+ghost use Rattle.expr_grammar.specs.Brackets.{PrintedFormHasTokens, BracketsAreNeeded};
 ghost use Rattle.expr_grammar.specs.Numbered.{NumbersDontMatter};
 ghost use Rattle.expr_grammar.specs.ReadBack.{PrintedFormHasTree, PrintedFormIsRead, ParsedTreesAreSpelled};
 ghost use Rattle.expr_grammar.specs.References.{ReferencesAreCounted, ReferencesAreChanged};
@@ -32,4 +33,12 @@ pub fn printed_form_is_read()
 /// negative, its units those of the table, its exponents of one or two digits.
 pub fn parsed_trees_are_spelled()
     ensures { ParsedTreesAreSpelled }
+{}
+
+/// Brackets stand exactly where they are needed: the printed form of a tree is its tokens, and the
+/// tokens of a part have its tree at a level of the grammar exactly where the part is printed there
+/// without brackets. A literal with a unit under `^` is in brackets besides.
+pub fn brackets_are_needed()
+    ensures has_tokens { PrintedFormHasTokens }
+    ensures needed { BracketsAreNeeded }
 {}
