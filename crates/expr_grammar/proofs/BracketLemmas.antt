@@ -1,5 +1,5 @@
 -- A tree that does not stand at a level as it is stands there in brackets alone.
-use Rattle.std.proofs.Common.{◌≡◌, ℕ, ℤ, zero, suc, ◌≤◌, ◌↔◌, Bool, true, false, nat_le, List, [], ◌∷◌, ◌++◌, Option, None, Some, IsTrue, refl, sym, ap, subst, ◌∙◌, arith, append_assoc, append-nil}
+use Rattle.std.proofs.Common.{◌≡◌, ℕ, ℤ, zero, suc, ◌≤◌, ◌↔◌, false, nat_le, List, [], ◌∷◌, ◌++◌, Option, None, Some, IsTrue, refl, sym, ap, subst, ◌∙◌, arith, append_assoc, append-nil}
 use Rattle.std.proofs.lemmas.Bool.{leb-false, lt-leb, le-leb, both_ways, true_from_ne_false}
 use Rattle.fc_base.specs.Places.{Place}
 use Rattle.expr_grammar.specs.declared.expr.UnitPower.{UnitPower}
@@ -290,6 +290,7 @@ not_as_it_is l (aggregate op all) h looser k = always_fits l looser
 
 -- a tree stands at a level without brackets exactly where it fits
 pub fits_exactly : (l : Level) (t : Tree) → IsSpelled t → IsTrue (fits l t) ↔ HasTree l (tree_tokens t) t
-fits_exactly l t h =
-    (λ e. at_looser l (level_of t) e (has_tree t h),
-      λ k. true_from_ne_false (fits l t) (λ looser. not_as_it_is l t h looser k))
+fits_exactly l t h = (
+  λ e. at_looser l (level_of t) e (has_tree t h),
+  λ k. true_from_ne_false (fits l t) (λ looser. not_as_it_is l t h looser k),
+)

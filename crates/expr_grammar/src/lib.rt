@@ -7,6 +7,7 @@ pub mod laws;
 mod operators;
 mod printing;
 mod sign;
+mod tightness;
 mod token;
 
 pub use expr::{Argument, Expr, Node, UnitPower};

@@ -1,4 +1,4 @@
-use Rattle.std.proofs.Common.{◌≡◌, ℕ, ◌+◌, ◌*◌, List, [], ◌++◌, drop, cond, string_bytes}
+use Rattle.std.proofs.Common.{◌≡◌, ◌+◌, ◌*◌, [], ◌++◌, drop, cond, string_bytes}
 use Rattle.expr_grammar.specs.Levels.{arguments_of}
 use Rattle.expr_grammar.specs.Nodes.{node_count, argument_nodes}
 use Rattle.expr_grammar.specs.Printed.{separator_text, printed_arguments}
