@@ -168,8 +168,8 @@ fn push_in_place(
 /// Writes arguments with `; ` between them.
 #[cycle(printing)]
 #[tactic(auto, unfolding(crate::specs::Printed::printed, crate::specs::Printed::printed_arguments))]
-fn push_arguments(alloc: Global, all: &Vec<Argument>, out: &mut String) -> Result<(), AllocError>
-    ensures { OnOk result (string_bytes out.new ≡ string_bytes out.old ++ printed_arguments (arguments_of all.now.items)) }
+fn push_arguments(alloc: Global, all: &[Argument], out: &mut String) -> Result<(), AllocError>
+    ensures { OnOk result (string_bytes out.new ≡ string_bytes out.old ++ printed_arguments (arguments_of all.now)) }
 {
     let mut first = true;
     for argument in all {
@@ -301,7 +301,7 @@ fn push_tree(alloc: Global, tree: &Expr, out: &mut String) -> Result<(), AllocEr
         Node::Aggregate(op, all) => {
             out.push_str(aggregate_text(*op))?;
             out.push_str("(")?;
-            push_arguments(alloc, all, out)?;
+            push_arguments(alloc, all.as_slice(), out)?;
             out.push_str(")")
         }
     }
