@@ -1,10 +1,9 @@
 -- An argument has no more nodes than all arguments together.
-use Rattle.std.proofs.Common.{◌≡◌, ℕ, zero, suc, ◌<◌, ◌≤◌, List, [], ◌∷◌, length, get_or, ap, arith}
+use Rattle.std.proofs.Common.{ℕ, zero, suc, ◌<◌, ◌≤◌, List, [], ◌∷◌, length, get_or, arith}
 use Rattle.expr_grammar.specs.declared.expr.Argument.{Argument}
 use Rattle.expr_grammar.specs.declared.expr.Argument.TheVariants as argument
 use Rattle.expr_grammar.specs.Levels.{arguments_of}
 use Rattle.expr_grammar.specs.Nodes.{node_count, argument_nodes}
-use Rattle.expr_grammar.specs.Tree.{Tree}
 
 -- the nodes of an argument; an area has none
 abbrev pub nodes_of : Argument → ℕ

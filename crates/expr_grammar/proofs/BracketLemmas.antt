@@ -1,219 +1,296 @@
--- Brackets are needed where a form is too loose: without them its first part is read alone.
-use Rattle.std.proofs.Common.{◌≡◌, ℕ, ◌+◌, ◌<◌, ◌≤◌, ℤ, Bool, true, false, List, [], ◌∷◌, ◌++◌, length, Option, None, Some, refl, sym, ◌∙◌, ap, subst, append_assoc, arith}
-use Rattle.std.specs.Prelude.{nat_le}
-use Rattle.std.proofs.lemmas.Bool.{leb-false, le-leb}
-use Rattle.expr_grammar.specs.declared.operators.BinaryOp as b
-use Rattle.expr_grammar.specs.declared.operators.BinaryOp.TheVariants as binary_op
+-- A tree that does not stand at a level as it is stands there in brackets alone.
+use Rattle.std.proofs.Common.{◌≡◌, ℕ, ℤ, zero, suc, ◌≤◌, ◌↔◌, false, nat_le, List, [], ◌∷◌, ◌++◌, Option, None, Some, IsTrue, refl, sym, ap, subst, ◌∙◌, arith, append_assoc, append-nil}
+use Rattle.std.proofs.lemmas.Bool.{leb-false, lt-leb, le-leb, both_ways, true_from_ne_false}
+use Rattle.fc_base.specs.Places.{Place}
+use Rattle.expr_grammar.specs.declared.expr.UnitPower.{UnitPower}
+use Rattle.expr_grammar.specs.declared.operators.BinaryOp.{BinaryOp}
+use Rattle.expr_grammar.specs.declared.operators.BinaryOp.TheVariants.{Plus, Minus, Times, Over, Modulo}
+use Rattle.expr_grammar.specs.declared.operators.CompareOp.{CompareOp}
+use Rattle.expr_grammar.specs.declared.operators.CompareOp.TheVariants.{Equal, NotEqual, Less, LessOrEqual, Greater, GreaterOrEqual}
 use Rattle.expr_grammar.specs.declared.sign.Sign as s
 use Rattle.expr_grammar.specs.declared.sign.Sign.TheVariants as sign
 use Rattle.expr_grammar.specs.declared.token.Token.{Token}
 use Rattle.expr_grammar.specs.declared.token.Token.TheVariants as token
-use Rattle.expr_grammar.specs.Descent.{Parsed, ◌>>=◌, parsed, parsed_exponents}
-use Rattle.expr_grammar.specs.Grammar.{Level, expression, comparison, sum, term, unary, powers, primary, binary_sign, compare_sign, binary_level, right_level, HoldsExponent, HasTree, a_comparison, a_sum, a_term, a_unary, a_power, a_primary, a_conditional, a_compare, a_binary, a_negate, a_raised, a_numeral, a_measure, a_unit, a_flag, a_text, a_path, in_brackets, a_function, a_modulo, an_aggregate}
+use Rattle.object_paths.specs.declared.slot_name.Component.TheVariants.{X, Y, Z, Turn}
+use Rattle.object_paths.specs.declared.slot_name.SlotName.{SlotName}
+use Rattle.object_paths.specs.declared.slot_name.SlotName.TheVariants as slot
+use Rattle.object_paths.specs.declared.path.Owner.{Owner}
+use Rattle.object_paths.specs.declared.path.Owner.TheVariants.{Here, ByName, ByLabel}
+use Rattle.object_paths.specs.declared.path.Path.{Path}
+use Rattle.expr_grammar.specs.Grammar.{Level, expression, comparison, sum, term, unary, powers, primary, binary_level, right_level, binary_sign, compare_sign, IsExponent, plain, negative, IsUnit, alone, raised, IsCorner, named, marked, IsSeparator, semicolon, comma, HasTree, a_comparison, a_sum, a_term, a_unary, a_power, a_primary, a_conditional, a_compare, a_binary, a_negate, a_raised, a_numeral, a_measure, a_unit, a_flag, a_text, a_path, in_brackets, a_function, a_modulo, an_aggregate, HasArguments, one_tree, more_trees, one_area, more_areas}
+use Rattle.expr_grammar.specs.PathTokens as p
+use Rattle.expr_grammar.specs.PathTokens.{slot_tokens, owner_tokens, IsPathOf, behind_point}
 use Rattle.expr_grammar.specs.Printed.{tightness, level_of, fits, fits_as_base}
 use Rattle.expr_grammar.specs.Spelled.{IsSpelled}
-use Rattle.expr_grammar.specs.Tree.{Tree, literal, unit_one, flag, text, path, negate, binary, power, compare, conditional, function, modulo, aggregate}
+use Rattle.expr_grammar.specs.Tree.{Tree, literal, unit_one, flag, text, path, negate, binary, power, compare, conditional, function, modulo, aggregate, Arguments}
 use Rattle.expr_grammar.specs.TreeTokens.{bracketed_tokens, exponent_tokens, tree_tokens}
-use Rattle.expr_grammar.proofs.FrontLemmas.{AllParsed}
-use Rattle.expr_grammar.proofs.DescentEquations.{parsed-is}
-use Rattle.expr_grammar.proofs.DescentComplete.{EndsUnary, EndsSum, Ends, ends_at_question, ends_at_comparison, ends_at_operation, operands-end}
-use Rattle.expr_grammar.proofs.TreesRead.{tree-read, grouped, sum-stops}
-use Rattle.expr_grammar.proofs.OneTree.{whole-read}
-use Rattle.expr_grammar.proofs.TokenLemmas.{at_looser, operand, base, bare_base, has_tree}
+use Rattle.expr_grammar.proofs.TokenLemmas.{at_looser, operand, base, has_tree}
 
--- what is read leaves a token at least
-abbrev LeavesSome : Parsed Tree → Type 0
-LeavesSome x = AllParsed (λ _ rest. 0 < length rest) x
+-- ---- open brackets
 
-leaves : (t : Tree) (rest : List Token) (x : Parsed Tree) → 0 < length rest → x ≡ Some (t, rest) → LeavesSome x
-leaves t rest x h e = subst LeavesSome (sym e) h
+-- how many brackets are open behind a sign; none where it closes one that is not open
+abbrev behind_sign : ℕ → s.Sign → Option ℕ
+behind_sign n sign.Open = Some (suc n)
+behind_sign zero sign.Close = None
+behind_sign (suc n) sign.Close = Some n
+behind_sign n _ = Some n
 
--- all tokens are not read where some are left
-not_all : (x : Parsed Tree) (t : Tree) → LeavesSome x → x ≡ Some (t, []) → ⊥
-not_all x t h e = absurd (let k : 0 < length {A = Token} [] = subst LeavesSome e h in omega (arith, k))
+abbrev behind_token : ℕ → Token → Option ℕ
+behind_token n (token.Sign x) = behind_sign n x
+behind_token n _ = Some n
 
--- the first term of a sum is read alone, and the first operand of a product
-first_term : {l : Level} {ts : List Token} {t : Tree} → HasTree l ts t → l ≡ sum → (rest : List Token) → EndsSum rest → 0 < length rest
-    → LeavesSome (parsed term (ts ++ rest))
-first_term (a_term {ts} {t} h) e rest ends long =
-    leaves t rest (parsed term (ts ++ rest)) long (tree-read term h rest ends.ends ∙ operands-end term t rest ends.no_product)
-first_term (a_binary op {xs} {ys} {a = x} {b = y} hx hy) e rest ends long =
-    let after : List Token = token.Sign (binary_sign op) ∷ (ys ++ rest) in
-    subst (λ (z : List Token). LeavesSome (parsed term z)) (sym (grouped xs (token.Sign (binary_sign op)) ys rest))
-    (first_term hx e after (subst (λ (m : Level). Ends m xs after) e (ends_at_operation op xs (ys ++ rest))) (omega arith))
-first_term (a_comparison h) e rest ends long = absurd (cc)
-first_term (a_sum h) e rest ends long = absurd (cc)
-first_term (a_unary h) e rest ends long = absurd (cc)
-first_term (a_power h) e rest ends long = absurd (cc)
-first_term (a_primary h) e rest ends long = absurd (cc)
-first_term (a_conditional c x y) e rest ends long = absurd (cc)
-first_term (a_compare op x y) e rest ends long = absurd (cc)
-first_term (a_negate h) e rest ends long = absurd (cc)
-first_term (a_raised h held n) e rest ends long = absurd (cc)
-first_term (a_numeral amount number) e rest ends long = absurd (cc)
-first_term (a_measure amount number u) e rest ends long = absurd (cc)
-first_term (a_unit name) e rest ends long = absurd (cc)
-first_term (a_flag v) e rest ends long = absurd (cc)
-first_term (a_text t) e rest ends long = absurd (cc)
-first_term (a_path p) e rest ends long = absurd (cc)
-first_term (in_brackets h) e rest ends long = absurd (cc)
-first_term (a_function op h) e rest ends long = absurd (cc)
-first_term (a_modulo between sep x y) e rest ends long = absurd (cc)
-first_term (an_aggregate op h) e rest ends long = absurd (cc)
+abbrev behind : Option ℕ → Token → Option ℕ
+behind None x = None
+behind (Some n) x = behind_token n x
 
-first_operand : {l : Level} {ts : List Token} {t : Tree} → HasTree l ts t → l ≡ term → (rest : List Token) → EndsUnary rest → 0 < length rest
-    → LeavesSome (parsed unary (ts ++ rest))
-first_operand (a_unary {ts} {t} h) e rest ends long = leaves t rest (parsed unary (ts ++ rest)) long (tree-read unary h rest ends)
-first_operand (a_binary op {xs} {ys} {a = x} {b = y} hx hy) e rest ends long =
-    let after : List Token = token.Sign (binary_sign op) ∷ (ys ++ rest) in
-    subst (λ (z : List Token). LeavesSome (parsed unary z)) (sym (grouped xs (token.Sign (binary_sign op)) ys rest))
-    (first_operand hx e after (subst (λ (m : Level). Ends m xs after) e (ends_at_operation op xs (ys ++ rest))) (omega arith))
-first_operand (a_comparison h) e rest ends long = absurd (cc)
-first_operand (a_sum h) e rest ends long = absurd (cc)
-first_operand (a_term h) e rest ends long = absurd (cc)
-first_operand (a_power h) e rest ends long = absurd (cc)
-first_operand (a_primary h) e rest ends long = absurd (cc)
-first_operand (a_conditional c x y) e rest ends long = absurd (cc)
-first_operand (a_compare op x y) e rest ends long = absurd (cc)
-first_operand (a_negate h) e rest ends long = absurd (cc)
-first_operand (a_raised h held n) e rest ends long = absurd (cc)
-first_operand (a_numeral amount number) e rest ends long = absurd (cc)
-first_operand (a_measure amount number u) e rest ends long = absurd (cc)
-first_operand (a_unit name) e rest ends long = absurd (cc)
-first_operand (a_flag v) e rest ends long = absurd (cc)
-first_operand (a_text t) e rest ends long = absurd (cc)
-first_operand (a_path p) e rest ends long = absurd (cc)
-first_operand (in_brackets h) e rest ends long = absurd (cc)
-first_operand (a_function op h) e rest ends long = absurd (cc)
-first_operand (a_modulo between sep x y) e rest ends long = absurd (cc)
-first_operand (an_aggregate op h) e rest ends long = absurd (cc)
+-- how many are open behind the tokens, where so many were open before
+abbrev open_from : Option ℕ → List Token → Option ℕ
+open_from o [] = o
+open_from o (x ∷ xs) = open_from (behind o x) xs
 
--- the first base of a power is read alone
-first_base : {l : Level} {ts : List Token} {t : Tree} → HasTree l ts t → l ≡ powers → (HoldsExponent ts → ⊥) → (after : List Token)
-    → LeavesSome (parsed primary (ts ++ token.Sign sign.Caret ∷ after))
-first_base (a_primary {ts} {t} h) e held after =
-    let rest : List Token = token.Sign sign.Caret ∷ after in
-    leaves t rest (parsed primary (ts ++ rest)) (omega arith)
-    (tree-read primary h rest (record { no_dot = refl; no_unit = refl; held = λ i. absurd (held i) }))
-first_base (a_raised {ts} {ns} h not_held n) e held after =
-    subst (λ (z : List Token). LeavesSome (parsed primary z)) (sym (grouped ts (token.Sign sign.Caret) ns (token.Sign sign.Caret ∷ after)))
-    (first_base h refl not_held (ns ++ token.Sign sign.Caret ∷ after))
-first_base (a_comparison h) e held after = absurd (cc)
-first_base (a_sum h) e held after = absurd (cc)
-first_base (a_term h) e held after = absurd (cc)
-first_base (a_unary h) e held after = absurd (cc)
-first_base (a_power h) e held after = absurd (cc)
-first_base (a_conditional c x y) e held after = absurd (cc)
-first_base (a_compare op x y) e held after = absurd (cc)
-first_base (a_binary binary_op.Plus x y) e held after = absurd (cc)
-first_base (a_binary binary_op.Minus x y) e held after = absurd (cc)
-first_base (a_binary binary_op.Times x y) e held after = absurd (cc)
-first_base (a_binary binary_op.Over x y) e held after = absurd (cc)
-first_base (a_binary binary_op.Modulo x y) e held after = absurd (cc)
-first_base (a_negate h) e held after = absurd (cc)
-first_base (a_numeral amount number) e held after = absurd (cc)
-first_base (a_measure amount number u) e held after = absurd (cc)
-first_base (a_unit name) e held after = absurd (cc)
-first_base (a_flag v) e held after = absurd (cc)
-first_base (a_text t) e held after = absurd (cc)
-first_base (a_path p) e held after = absurd (cc)
-first_base (in_brackets h) e held after = absurd (cc)
-first_base (a_function op h) e held after = absurd (cc)
-first_base (a_modulo between sep x y) e held after = absurd (cc)
-first_base (an_aggregate op h) e held after = absurd (cc)
+-- each bracket of the tokens is closed among them
+abbrev IsBalanced : List Token → Type 0
+IsBalanced ts = (n : ℕ) (rest : List Token) → open_from (Some n) (ts ++ rest) ≡ open_from (Some n) rest
 
--- a form does not stand at the level next to its own
+-- a sign that is no bracket
+abbrev IsNeutral : s.Sign → Type 0
+IsNeutral x = (n : ℕ) → behind_sign n x ≡ Some n
 
-sum-loose : (op : b.BinaryOp) (x y : Tree) → binary_level op ≡ sum → IsSpelled (binary op x y) → HasTree term (tree_tokens (binary op x y)) (binary op x y) → ⊥
-sum-loose op x y e h has =
-    let rest : List Token = token.Sign (binary_sign op) ∷ bracketed_tokens (fits (right_level op) y) (tree_tokens y) in
-    let xs : List Token = bracketed_tokens (fits (binary_level op) x) (tree_tokens x) in
-    not_all (parsed term (xs ++ rest)) (binary op x y)
-    (first_term (operand (binary_level op) x (has_tree x h.0)) e rest
-    (subst (λ (m : Level). Ends m xs rest) e (ends_at_operation op xs (bracketed_tokens (fits (right_level op) y) (tree_tokens y)))) (omega arith))
-    (whole-read term (xs ++ rest) (binary op x y) has)
+binary_neutral : (op : BinaryOp) → IsNeutral (binary_sign op)
+binary_neutral Plus n = refl
+binary_neutral Minus n = refl
+binary_neutral Times n = refl
+binary_neutral Over n = refl
+binary_neutral Modulo n = refl
 
-product-loose : (op : b.BinaryOp) (x y : Tree) → binary_level op ≡ term → IsSpelled (binary op x y) → HasTree unary (tree_tokens (binary op x y)) (binary op x y) → ⊥
-product-loose op x y e h has =
-    let rest : List Token = token.Sign (binary_sign op) ∷ bracketed_tokens (fits (right_level op) y) (tree_tokens y) in
-    let xs : List Token = bracketed_tokens (fits (binary_level op) x) (tree_tokens x) in
-    not_all (parsed unary (xs ++ rest)) (binary op x y)
-    (first_operand (operand (binary_level op) x (has_tree x h.0)) e rest
-    (subst (λ (m : Level). Ends m xs rest) e (ends_at_operation op xs (bracketed_tokens (fits (right_level op) y) (tree_tokens y)))) (omega arith))
-    (whole-read unary (xs ++ rest) (binary op x y) has)
+compare_neutral : (op : CompareOp) → IsNeutral (compare_sign op)
+compare_neutral Equal n = refl
+compare_neutral NotEqual n = refl
+compare_neutral Less n = refl
+compare_neutral LessOrEqual n = refl
+compare_neutral Greater n = refl
+compare_neutral GreaterOrEqual n = refl
 
-abbrev tighter : Level → Level
-tighter expression = comparison
-tighter comparison = sum
-tighter sum = term
-tighter term = unary
-tighter unary = powers
-tighter powers = primary
-tighter primary = primary
+separator_neutral : {x : s.Sign} → IsSeparator x → IsNeutral x
+separator_neutral semicolon n = refl
+separator_neutral comma n = refl
 
-loose : (t : Tree) → IsSpelled t → nat_le (tightness (level_of t)) 5 ≡ true → HasTree (tighter (level_of t)) (tree_tokens t) t → ⊥
-loose (binary binary_op.Plus x y) h k has = sum-loose binary_op.Plus x y refl h has
-loose (binary binary_op.Minus x y) h k has = sum-loose binary_op.Minus x y refl h has
-loose (binary binary_op.Times x y) h k has = product-loose binary_op.Times x y refl h has
-loose (binary binary_op.Over x y) h k has = product-loose binary_op.Over x y refl h has
-loose (binary binary_op.Modulo x y) h k has = product-loose binary_op.Modulo x y refl h has
-loose (negate x) h k has =
-    let ts : List Token = bracketed_tokens (fits unary x) (tree_tokens x) in
-    let none : parsed powers (token.Sign sign.Minus ∷ ts) ≡ None =
-    parsed-is powers (token.Sign sign.Minus ∷ ts)
-    ∙ ap (λ (z : Parsed Tree). z >>= λ a r. parsed_exponents a r) (parsed-is primary (token.Sign sign.Minus ∷ ts)) in
-    let some : parsed powers (token.Sign sign.Minus ∷ ts) ≡ Some (negate x, []) = whole-read powers (token.Sign sign.Minus ∷ ts) (negate x) has in
-    absurd (let clash : None ≡ Some (negate x, []) = sym none ∙ some in cc)
-loose (power x n) h k has =
-    let xs : List Token = bracketed_tokens (fits_as_base x) (tree_tokens x) in
-    let rest : List Token = token.Sign sign.Caret ∷ exponent_tokens n in
-    not_all (parsed primary (xs ++ rest)) (power x n) (first_base (base x (has_tree x h.0)) refl (bare_base x) (exponent_tokens n))
-    (whole-read primary (xs ++ rest) (power x n) has)
-loose (compare op x y) h k has =
-    let xs : List Token = bracketed_tokens (fits sum x) (tree_tokens x) in
-    let ys : List Token = bracketed_tokens (fits sum y) (tree_tokens y) in
-    let rest : List Token = token.Sign (compare_sign op) ∷ ys in
-    not_all (parsed sum (xs ++ rest)) (compare op x y)
-    (leaves x rest (parsed sum (xs ++ rest)) (omega arith)
-    (tree-read sum (operand sum x (has_tree x h.0)) rest (ends_at_comparison op ys) ∙ operands-end sum x rest (sum-stops op ys)))
-    (whole-read sum (xs ++ rest) (compare op x y) has)
-loose (conditional c x y) h k has =
-    let xs : List Token = bracketed_tokens (fits comparison c) (tree_tokens c) in
-    let arms : List Token = tree_tokens x ++ token.Sign sign.Colon ∷ tree_tokens y in
-    let rest : List Token = token.Sign sign.Question ∷ arms in
-    not_all (parsed comparison (xs ++ rest)) (conditional c x y)
-    (leaves c rest (parsed comparison (xs ++ rest)) (omega arith) (tree-read comparison (operand comparison c (has_tree c h.0)) rest (ends_at_question arms)))
-    (whole-read comparison (xs ++ rest) (conditional c x y) has)
-loose (literal x u) h k has = absurd (cc)
-loose (unit_one name) h k has = absurd (cc)
-loose (flag v) h k has = absurd (cc)
-loose (text t) h k has = absurd (cc)
-loose (path p) h k has = absurd (cc)
-loose (function op x) h k has = absurd (cc)
-loose (modulo x y) h k has = absurd (cc)
-loose (aggregate op all) h k has = absurd (cc)
+-- two balanced parts round such a sign
+joined : (xs ys : List Token) (x : s.Sign) → IsBalanced xs → IsNeutral x → IsBalanced ys → IsBalanced (xs ++ token.Sign x ∷ ys)
+joined xs ys x h neutral k n rest =
+    ap (open_from (Some n)) (append_assoc xs (token.Sign x ∷ ys) rest) ∙ h n (token.Sign x ∷ (ys ++ rest))
+    ∙ ap (λ o. open_from o (ys ++ rest)) (neutral n) ∙ k n rest
 
--- a level that is tighter than another is the next one or tighter
-next_le : (m l : Level) → nat_le (tightness l) (tightness m) ≡ false → (nat_le (tightness m) 5 ≡ true) × (nat_le (tightness (tighter m)) (tightness l) ≡ true)
-next_le expression l h = let lt : 0 < tightness l = leb-false (tightness l) 0 h in (refl, le-leb 1 (tightness l) (omega (arith, lt)))
-next_le comparison l h = let lt : 1 < tightness l = leb-false (tightness l) 1 h in (refl, le-leb 2 (tightness l) (omega (arith, lt)))
-next_le sum l h = let lt : 2 < tightness l = leb-false (tightness l) 2 h in (refl, le-leb 3 (tightness l) (omega (arith, lt)))
-next_le term l h = let lt : 3 < tightness l = leb-false (tightness l) 3 h in (refl, le-leb 4 (tightness l) (omega (arith, lt)))
-next_le unary l h = let lt : 4 < tightness l = leb-false (tightness l) 4 h in (refl, le-leb 5 (tightness l) (omega (arith, lt)))
-next_le powers l h = let lt : 5 < tightness l = leb-false (tightness l) 5 h in (refl, le-leb 6 (tightness l) (omega (arith, lt)))
-next_le primary expression h = absurd (cc)
-next_le primary comparison h = absurd (cc)
-next_le primary sum h = absurd (cc)
-next_le primary term h = absurd (cc)
-next_le primary unary h = absurd (cc)
-next_le primary powers h = absurd (cc)
-next_le primary primary h = absurd (cc)
+closed : (ts : List Token) → IsBalanced ts → (n : ℕ) (rest : List Token) → open_from (Some (suc n)) ((ts ++ token.Sign sign.Close ∷ []) ++ rest) ≡ open_from (Some n) rest
+closed ts h n rest = ap (open_from (Some (suc n))) (append_assoc ts (token.Sign sign.Close ∷ []) rest) ∙ h (suc n) (token.Sign sign.Close ∷ rest)
 
-pub brackets-needed : (l : Level) (t : Tree) → IsSpelled t
-    → (fits l t ≡ true → HasTree l (tree_tokens t) t) × (fits l t ≡ false → HasTree l (tree_tokens t) t → ⊥)
-brackets-needed l t h = (
-  λ fitting. at_looser l (level_of t) fitting (has_tree t h),
-  λ too_loose has.
-      let next : (nat_le (tightness (level_of t)) 5 ≡ true) × (nat_le (tightness (tighter (level_of t))) (tightness l) ≡ true) = next_le (level_of t) l too_loose in
-      loose t h next.0 (at_looser (tighter (level_of t)) l next.1 has),
+exponent_balanced : {ts : List Token} {m : ℤ} → IsExponent ts m → IsBalanced ts
+exponent_balanced (plain amount m h) n rest = refl
+exponent_balanced (negative amount m h) n rest = refl
+
+unit_balanced : {ts : List Token} {u : UnitPower} → IsUnit ts u → IsBalanced ts
+unit_balanced (alone name) n rest = refl
+unit_balanced (raised name e) n rest = exponent_balanced e n rest
+
+slot_balanced : (name : SlotName) → IsBalanced (slot_tokens name)
+slot_balanced (slot.Plain name) n rest = refl
+slot_balanced (slot.Component name X) n rest = refl
+slot_balanced (slot.Component name Y) n rest = refl
+slot_balanced (slot.Component name Z) n rest = refl
+slot_balanced (slot.Component name Turn) n rest = refl
+slot_balanced (slot.Marked place) n rest = refl
+
+owned_balanced : (owner : Owner) (name : SlotName) → IsBalanced (owner_tokens owner ++ slot_tokens name)
+owned_balanced Here name n rest = slot_balanced name n rest
+owned_balanced (ByName owner) name n rest = slot_balanced name n rest
+owned_balanced (ByLabel label) name n rest = slot_balanced name n rest
+
+path_balanced : {ts : List Token} {q : Path} → IsPathOf ts q → IsBalanced ts
+path_balanced (p.plain q k) n rest = owned_balanced q.owner q.slot n rest
+path_balanced (behind_point name) n rest = slot_balanced name n rest
+
+corner_neutral : {x : Token} {place : Place} → IsCorner x place → (n : ℕ) → behind_token n x ≡ Some n
+corner_neutral (named name place e) n = refl
+corner_neutral (marked place) n = refl
+
+area_neutral : {x y : Token} {from to : Place} → IsCorner x from → IsCorner y to → (n : ℕ) (rest : List Token)
+    → open_from (Some n) (x ∷ token.Sign sign.Colon ∷ y ∷ rest) ≡ open_from (Some n) rest
+area_neutral {x} {y} a b n rest =
+    ap (λ o. open_from (behind (behind o (token.Sign sign.Colon)) y) rest) (corner_neutral a n) ∙ ap (λ o. open_from o rest) (corner_neutral b n)
+
+mutual
+  balanced : {l : Level} {ts : List Token} {t : Tree} → HasTree l ts t → IsBalanced ts
+  balanced (a_comparison h) n rest = balanced h n rest
+  balanced (a_sum h) n rest = balanced h n rest
+  balanced (a_term h) n rest = balanced h n rest
+  balanced (a_unary h) n rest = balanced h n rest
+  balanced (a_power h) n rest = balanced h n rest
+  balanced (a_primary h) n rest = balanced h n rest
+  balanced (a_conditional {xs} {ys} {zs} c a b) n rest =
+      joined xs (ys ++ token.Sign sign.Colon ∷ zs) sign.Question (balanced c) (λ m. refl)
+      (joined ys zs sign.Colon (balanced a) (λ m. refl) (balanced b)) n rest
+  balanced (a_compare op {xs} {ys} a b) n rest = joined xs ys (compare_sign op) (balanced a) (compare_neutral op) (balanced b) n rest
+  balanced (a_binary op {xs} {ys} a b) n rest = joined xs ys (binary_sign op) (balanced a) (binary_neutral op) (balanced b) n rest
+  balanced (a_negate h) n rest = balanced h n rest
+  balanced (a_raised {ts} {ns} h none e) n rest = joined ts ns sign.Caret (balanced h) (λ m. refl) (exponent_balanced e) n rest
+  balanced (a_numeral x number) n rest = refl
+  balanced (a_measure x number u) n rest = unit_balanced u n rest
+  balanced (a_unit name) n rest = refl
+  balanced (a_flag b) n rest = refl
+  balanced (a_text t) n rest = refl
+  balanced (a_path h) n rest = path_balanced h n rest
+  balanced (in_brackets {ts} h) n rest = closed ts (balanced h) n rest
+  balanced (a_function op {ts} h) n rest = closed ts (balanced h) n rest
+  balanced (a_modulo between is {xs} {ys} a b) n rest =
+      ap (open_from (Some (suc n))) (append_assoc xs (token.Sign between ∷ (ys ++ token.Sign sign.Close ∷ [])) rest)
+      ∙ balanced a (suc n) (token.Sign between ∷ ((ys ++ token.Sign sign.Close ∷ []) ++ rest))
+      ∙ ap (λ o. open_from o ((ys ++ token.Sign sign.Close ∷ []) ++ rest)) (separator_neutral is (suc n))
+      ∙ closed ys (balanced b) n rest
+  balanced (an_aggregate op {ts} {all} h) n rest = closed ts (arguments_balanced h) n rest
+
+  arguments_balanced : {ts : List Token} {all : Arguments} → HasArguments ts all → IsBalanced ts
+  arguments_balanced (one_tree h) n rest = balanced h n rest
+  arguments_balanced (more_trees between is {ts} {us} h more) n rest = joined ts us between (balanced h) (separator_neutral is) (arguments_balanced more) n rest
+  arguments_balanced (one_area area a b k) n rest = area_neutral a b n rest
+  arguments_balanced (more_areas between is area {x} {y} {us} a b k more) n rest =
+      area_neutral a b n (token.Sign between ∷ (us ++ rest))
+      ∙ ap (λ o. open_from o (us ++ rest)) (separator_neutral is n) ∙ arguments_balanced more n rest
+
+-- ---- a tree in brackets begins with a bracket that only the last one closes
+
+none_open : (xs : List Token) → open_from None xs ≡ None
+none_open [] = refl
+none_open (x ∷ xs) = none_open xs
+
+-- where brackets that were open are closed, they are not without them
+too_many : (xs zs : List Token) (n : ℕ) → open_from (Some (suc n)) xs ≡ Some 0 → open_from (Some n) (xs ++ zs) ≡ None
+too_many [] zs n h = cc
+too_many (token.Sign sign.Open ∷ xs) zs n h = too_many xs zs (suc n) h
+too_many (token.Sign sign.Close ∷ xs) zs zero h = none_open (xs ++ zs)
+too_many (token.Sign sign.Close ∷ xs) zs (suc n) h = too_many xs zs n h
+too_many (x ∷ xs) zs n h = too_many xs zs n h
+
+never_empty : (xs ys : List Token) (x : Token) → xs ++ x ∷ ys ≡ [] → ⊥
+never_empty [] ys x e = cc
+never_empty (a ∷ xs) ys x e = cc
+
+-- what stands before a token that is not the last stands in front of the last
+front : (xs us ys : List Token) (x : Token) → xs ++ x ∷ ys ≡ us ++ token.Sign sign.Close ∷ [] → (zs : List Token) × (us ≡ xs ++ zs)
+front [] us ys x e = (us, refl)
+front (a ∷ xs) [] ys x e = let tail : xs ++ x ∷ ys ≡ [] = cc in absurd (never_empty xs ys x tail)
+front (a ∷ xs) (u ∷ us) ys x e =
+    let tail : xs ++ x ∷ ys ≡ us ++ token.Sign sign.Close ∷ [] = cc in
+    let head : u ≡ a = cc in
+    let found = front xs us ys x tail in
+    (found.0, λ i. head i ∷ found.1 i)
+
+opens_none : (x : s.Sign) → IsNeutral x → token.Sign x ≡ token.Sign sign.Open → ⊥
+opens_none x neutral e =
+    let is : x ≡ sign.Open = cc in
+    let same : ◌≡◌ {A = Option ℕ} (Some 1) (Some 0) = subst (λ y. behind_sign 0 y ≡ Some 0) is (neutral 0) in
+    cc
+
+-- two parts with a sign between them are no part in brackets
+not_enclosed : (xs ys us : List Token) (x : s.Sign) → IsBalanced xs → IsNeutral x → IsBalanced us
+    → xs ++ token.Sign x ∷ ys ≡ token.Sign sign.Open ∷ (us ++ token.Sign sign.Close ∷ []) → ⊥
+not_enclosed [] ys us x h neutral k e = let first : token.Sign x ≡ token.Sign sign.Open = cc in opens_none x neutral first
+not_enclosed (a ∷ xs) ys us x h neutral k e =
+    let first : a ≡ token.Sign sign.Open = cc in
+    let tail : xs ++ token.Sign x ∷ ys ≡ us ++ token.Sign sign.Close ∷ [] = cc in
+    let found = front xs us ys (token.Sign x) tail in
+    let closes : open_from (Some 1) xs ≡ Some 0 =
+    ap (open_from (Some 1)) (sym (append-nil xs)) ∙ ap (λ y. open_from (behind_token 0 y) (xs ++ [])) (sym first) ∙ h 0 [] in
+    let never : open_from (Some 0) us ≡ None = ap (open_from (Some 0)) found.1 ∙ too_many xs found.0 0 closes in
+    let some : open_from (Some 0) us ≡ Some 0 = ap (open_from (Some 0)) (sym (append-nil us)) ∙ k 0 [] in
+    cc
+
+-- ---- derivations
+
+-- The tokens are a bracket, an expression and a bracket.
+record IsEnclosed (ts : List Token) (t : Tree) : Type 0 where
+  inside : List Token
+  tokens : ts ≡ token.Sign sign.Open ∷ (inside ++ token.Sign sign.Close ∷ [])
+  tree : HasTree expression inside t
+
+same_level : (l : Level) → nat_le (tightness l) (tightness l) ≡ false → ⊥
+same_level l h = both_ways _ h (le-leb (tightness l) (tightness l) (omega arith))
+
+tighter : (m n k : ℕ) → m ≤ n → nat_le m k ≡ false → nat_le n k ≡ false
+tighter m n k h e = let below = leb-false m k e in lt-leb n k (omega arith)
+
+loosest : (k : ℕ) → nat_le 0 k ≡ false → ⊥
+loosest k h = both_ways _ h (le-leb 0 k (omega arith))
+
+-- a form that is looser than the level stands in brackets
+enclosed : {l : Level} {ts : List Token} {t : Tree} → HasTree l ts t → nat_le (tightness l) (tightness (level_of t)) ≡ false → IsEnclosed ts t
+enclosed (a_comparison {ts} {t} h) looser = absurd (loosest (tightness (level_of t)) looser)
+enclosed (a_sum {ts} {t} h) looser = enclosed h (tighter 1 2 (tightness (level_of t)) (omega arith) looser)
+enclosed (a_term {ts} {t} h) looser = enclosed h (tighter 2 3 (tightness (level_of t)) (omega arith) looser)
+enclosed (a_unary {ts} {t} h) looser = enclosed h (tighter 3 4 (tightness (level_of t)) (omega arith) looser)
+enclosed (a_power {ts} {t} h) looser = enclosed h (tighter 4 5 (tightness (level_of t)) (omega arith) looser)
+enclosed (a_primary {ts} {t} h) looser = enclosed h (tighter 5 6 (tightness (level_of t)) (omega arith) looser)
+enclosed (a_conditional c a b) looser = absurd (same_level expression looser)
+enclosed (a_compare op a b) looser = absurd (same_level comparison looser)
+enclosed (a_binary op a b) looser = absurd (same_level (binary_level op) looser)
+enclosed (a_negate h) looser = absurd (same_level unary looser)
+enclosed (a_raised h none e) looser = absurd (same_level powers looser)
+enclosed (a_numeral x number) looser = absurd (same_level primary looser)
+enclosed (a_measure x number u) looser = absurd (same_level primary looser)
+enclosed (a_unit name) looser = absurd (same_level primary looser)
+enclosed (a_flag b) looser = absurd (same_level primary looser)
+enclosed (a_text t) looser = absurd (same_level primary looser)
+enclosed (a_path h) looser = absurd (same_level primary looser)
+enclosed (in_brackets {ts} h) looser = record { inside = ts; tokens = refl; tree = h }
+enclosed (a_function op h) looser = absurd (same_level primary looser)
+enclosed (a_modulo between is a b) looser = absurd (same_level primary looser)
+enclosed (an_aggregate op h) looser = absurd (same_level primary looser)
+
+tightness-le : (l : Level) → tightness l ≤ 6
+tightness-le expression = omega arith
+tightness-le comparison = omega arith
+tightness-le sum = omega arith
+tightness-le term = omega arith
+tightness-le unary = omega arith
+tightness-le powers = omega arith
+tightness-le primary = omega arith
+
+always_fits : (l : Level) → nat_le (tightness l) 6 ≡ false → ⊥
+always_fits l h = both_ways _ h (le-leb (tightness l) 6 (tightness-le l))
+
+-- so the tokens of a tree that does not fit do not have it
+pub not_as_it_is : (l : Level) (t : Tree) → IsSpelled t → fits l t ≡ false → HasTree l (tree_tokens t) t → ⊥
+not_as_it_is l (literal x u) h looser k = always_fits l looser
+not_as_it_is l (unit_one name) h looser k = always_fits l looser
+not_as_it_is l (flag b) h looser k = always_fits l looser
+not_as_it_is l (text t) h looser k = always_fits l looser
+not_as_it_is l (path q) h looser k = always_fits l looser
+not_as_it_is l (negate a) h looser k =
+    let found = enclosed k looser in
+    let tokens : tree_tokens (negate a) ≡ token.Sign sign.Open ∷ (found.inside ++ token.Sign sign.Close ∷ []) = found.tokens in
+    cc
+not_as_it_is l (binary op a b) h looser k =
+    let found = enclosed k looser in
+    not_enclosed (bracketed_tokens (fits (binary_level op) a) (tree_tokens a)) (bracketed_tokens (fits (right_level op) b) (tree_tokens b)) found.inside
+    (binary_sign op) (balanced (operand (binary_level op) a (has_tree a h.0))) (binary_neutral op) (balanced found.tree) found.tokens
+not_as_it_is l (power a n) h looser k =
+    let found = enclosed k looser in
+    not_enclosed (bracketed_tokens (fits_as_base a) (tree_tokens a)) (exponent_tokens n) found.inside
+    sign.Caret (balanced (base a (has_tree a h.0))) (λ m. refl) (balanced found.tree) found.tokens
+not_as_it_is l (compare op a b) h looser k =
+    let found = enclosed k looser in
+    not_enclosed (bracketed_tokens (fits sum a) (tree_tokens a)) (bracketed_tokens (fits sum b) (tree_tokens b)) found.inside
+    (compare_sign op) (balanced (operand sum a (has_tree a h.0))) (compare_neutral op) (balanced found.tree) found.tokens
+not_as_it_is l (conditional c a b) h looser k =
+    let found = enclosed k looser in
+    not_enclosed (bracketed_tokens (fits comparison c) (tree_tokens c)) (tree_tokens a ++ token.Sign sign.Colon ∷ tree_tokens b) found.inside
+    sign.Question (balanced (operand comparison c (has_tree c h.0))) (λ m. refl) (balanced found.tree) found.tokens
+not_as_it_is l (function op a) h looser k = always_fits l looser
+not_as_it_is l (modulo a b) h looser k = always_fits l looser
+not_as_it_is l (aggregate op all) h looser k = always_fits l looser
+
+-- a tree stands at a level without brackets exactly where it fits
+pub fits_exactly : (l : Level) (t : Tree) → IsSpelled t → IsTrue (fits l t) ↔ HasTree l (tree_tokens t) t
+fits_exactly l t h = (
+  λ e. at_looser l (level_of t) e (has_tree t h),
+  λ k. true_from_ne_false (fits l t) (λ looser. not_as_it_is l t h looser k),
 )

@@ -96,19 +96,23 @@ mutual
   arguments_read (tree t more) h = followed (printed_reads t h.0) (others more (arguments_read more h.1))
   arguments_read (cells area more) h = followed (area_reads area h.0) (others more (arguments_read more h.1))
 
--- the printed form has lexemes, and these have the tree
-pub printed_is_tree : (t : Tree) → IsSpelled t → (xs : List Placed) × ((lexed (printed t) ≡ Ok xs) × HasTree expression (tokens_of xs) t)
-printed_is_tree t h =
+-- the printed form has lexemes, and these are the tokens of the tree
+pub printed_has_tokens : (t : Tree) → IsSpelled t → (xs : List Placed) × ((lexed (printed t) ≡ Ok xs) × (tokens_of xs ≡ tree_tokens t))
+printed_has_tokens t h =
     let read = printed_reads t h in
-    let found = placed_from (read.1.lexemes [] [] refl finished) 0 in
-    let tokens : tokens_of found.placed ≡ tree_tokens t =
-    ap (kinds false) found.lexemes ∙ read.1.tokens [] refl ∙ append-nil (tree_tokens t) in (
+    let found = placed_from (read.1.lexemes [] [] refl finished) 0 in (
       found.placed,
       (
         ap lexed (sym (append-nil (printed t))) ∙ found.lexed,
-        subst (λ ts. HasTree expression ts t) (sym tokens) (as_expression t (has_tree t h)),
+        ap (kinds false) found.lexemes ∙ read.1.tokens [] refl ∙ append-nil (tree_tokens t),
       ),
     )
+
+-- so these have the tree
+pub printed_is_tree : (t : Tree) → IsSpelled t → (xs : List Placed) × ((lexed (printed t) ≡ Ok xs) × HasTree expression (tokens_of xs) t)
+printed_is_tree t h =
+    let found = printed_has_tokens t h in
+    (found.0, (found.1.0, subst (λ ts. HasTree expression ts t) (sym found.1.1) (as_expression t (has_tree t h))))
 
 -- so within the limits it is an expression with that tree
 pub printed_is_read : (t : Tree) → IsSpelled t → (xs : List Placed) → IsLexed (printed t) xs → Parses (printed t) t

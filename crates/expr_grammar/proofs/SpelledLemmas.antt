@@ -1,32 +1,26 @@
 -- What the lexemes, the tokens and the trees of a text are made of can be spelled.
-use Rattle.std.proofs.Common.{◌≡◌, ℕ, zero, suc, ◌+◌, ◌-◌, ◌<◌, ◌≤◌, ◌⊎◌, ℤ, pos, negsuc, neg_ℤ, Bool, true, false, cond, not, ◌&&◌, ◌||◌, nat_le, List, [], ◌∷◌, ◌++◌, length, take, map, Option, Some, None, is_some, Result, Ok, Err, IsTrue, refl, sym, ap, subst, ◌∙◌, ⊎_elim, arith}
-use Rattle.std.specs.Prelude.{◌==◌, nat_lt, int_le, if◌then◌else◌, codes}
+use Rattle.std.proofs.Common.{◌≡◌, ℕ, zero, suc, ◌+◌, ◌-◌, ◌<◌, ◌≤◌, pos, true, false, not, ◌&&◌, ◌||◌, nat_le, List, [], ◌∷◌, length, take, map, Option, Some, None, Result, Ok, Err, refl, sym, ap, subst, ◌∙◌, ⊎_elim, arith}
+use Rattle.std.specs.Prelude.{◌==◌, nat_lt, if◌then◌else◌}
 use Rattle.std.specs.Option.{option_map}
-use Rattle.std.specs.Str.{bytes_eq}
 use Rattle.std.specs.Char.{is_ascii_digit}
-use Rattle.std.proofs.lemmas.Bool.{and_parts, and_from, or_parts, or_from, or_cases, and_cases, cases_Bool, not_from_false, eqb-true, leb-true, le-leb, false≢true, not-true, both_ways, cond_both, ltb-true}
+use Rattle.std.proofs.lemmas.Bool.{and_parts, and_from, or_from, and_cases, not_from_false, leb-true, le-leb, both_ways, cond_both, ltb-true}
 use Rattle.std.proofs.lemmas.Bool.Decides.{nat_tests}
-use Rattle.fc_base.specs.Places.{Place, IsPlace, Block, IsBlock, address_of}
-use Rattle.fc_base.specs.Texts.{is_name, is_label, is_text_value, has_closing_mark, ends_in_mark}
+use Rattle.fc_base.specs.Places.{IsPlace, address_of}
+use Rattle.fc_base.specs.Texts.{is_name, is_text_value, has_closing_mark, ends_in_mark}
 use Rattle.fc_base.proofs.AddressLemmas.{address_of-iff}
-use Rattle.unit_signatures.specs.Table.{unit_named}
-use Rattle.quantities.specs.Amounts.{IsAmount, greatest, signed}
+use Rattle.quantities.specs.Amounts.{greatest, signed}
 use Rattle.quantities.specs.Decimals.{is_decimal, decimal_size, decimal_value}
 use Rattle.quantities.specs.Digits.{begins_with_minus}
-use Rattle.quantities.specs.declared.decimal_fault.DecimalFault.{DecimalFault}
 use Rattle.quantities.specs.declared.decimal_fault.DecimalFault.TheVariants.{NotDecimal, Range}
 use Rattle.object_paths.specs.PathParts.{is_blank, opened, until_closing}
-use Rattle.object_paths.specs.Paths.{IsSlotName, IsOwner, IsPath}
 use Rattle.expr_grammar.specs.declared.sign.Sign as s
 use Rattle.expr_grammar.specs.declared.token.Lexeme.{Lexeme}
 use Rattle.expr_grammar.specs.declared.token.Lexeme.TheVariants.{Numeral, Identifier, Marked, Text, Sign}
 use Rattle.expr_grammar.specs.declared.token.Placed.{Placed}
-use Rattle.expr_grammar.specs.declared.token.Token.{Token}
-use Rattle.expr_grammar.specs.declared.token.Token.TheVariants as token
-use Rattle.expr_grammar.specs.Lexemes.{numeral_of, has_mark, is_marked_address, spells_word, identifier_of, marked_of, of_length, numeral_at, word_at, quoted, mark_or_word, lexeme_at, in_front, with_lexeme, lexed_from, short_number}
+use Rattle.expr_grammar.specs.Lexemes.{numeral_of, has_mark, is_marked_address, spells_word, identifier_of, marked_of, of_length, numeral_at, word_at, quoted, mark_or_word, lexeme_at, in_front, with_lexeme, lexed_from}
 use Rattle.expr_grammar.specs.Longest.{longest}
-use Rattle.expr_grammar.specs.Signs.{sign_at, sign_text}
-use Rattle.expr_grammar.specs.Spelled.{is_unit_name, is_quotable, IsNumeral}
+use Rattle.expr_grammar.specs.Signs.{sign_at}
+use Rattle.expr_grammar.specs.Spelled.{is_quotable, IsNumeral}
 use Rattle.expr_grammar.proofs.LongestLemmas.{longest-passes}
 
 -- ---- lexemes

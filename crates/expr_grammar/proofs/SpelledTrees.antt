@@ -1,14 +1,13 @@
 -- The tokens of spelled lexemes, and the trees that they have, can be spelled.
-use Rattle.std.proofs.Common.{◌≡◌, ℕ, zero, suc, ◌<◌, ◌≤◌, ℤ, pos, negsuc, neg_ℤ, Bool, true, false, cond, ◌&&◌, ◌||◌, List, [], ◌∷◌, ◌++◌, map, Option, Some, None, is_some, Result, Ok, IsTrue, refl, sym, ap, subst, ◌∙◌, arith}
-use Rattle.std.specs.Prelude.{if◌then◌else◌, codes}
+use Rattle.std.proofs.Common.{◌≡◌, ℕ, zero, suc, ◌<◌, ℤ, pos, neg_ℤ, Bool, true, false, ◌||◌, List, [], ◌∷◌, ◌++◌, map, Some, is_some, refl, subst, arith}
+use Rattle.std.specs.Prelude.{codes}
 use Rattle.std.specs.Str.{bytes_eq}
 use Rattle.std.proofs.lemmas.Bool.{cond_both, le-leb}
 use Rattle.std.proofs.lemmas.Bool.Decides.{nat_tests}
-use Rattle.fc_base.specs.Places.{Place, IsPlace, Block, IsBlock, address_of}
+use Rattle.fc_base.specs.Places.{Place, IsPlace}
 use Rattle.fc_base.specs.Texts.{is_name}
 use Rattle.fc_base.proofs.AddressLemmas.{address_of-iff}
 use Rattle.unit_signatures.specs.Table.{unit_named}
-use Rattle.object_paths.specs.declared.slot_name.Component.TheVariants.{X, Y, Z, Turn}
 use Rattle.object_paths.specs.declared.slot_name.SlotName.{SlotName}
 use Rattle.object_paths.specs.declared.slot_name.SlotName.TheVariants as slot
 use Rattle.object_paths.specs.declared.path.Owner.{Owner}
@@ -24,12 +23,12 @@ use Rattle.expr_grammar.specs.declared.token.Placed.{Placed}
 use Rattle.expr_grammar.specs.declared.token.Token.{Token}
 use Rattle.expr_grammar.specs.declared.token.Token.TheVariants as token
 use Rattle.expr_grammar.specs.Grammar.{Level, binary_sign, compare_sign, IsExponent, plain, negative, IsUnit, alone, raised, IsCorner, named, marked, HasTree, a_comparison, a_sum, a_term, a_unary, a_power, a_primary, a_conditional, a_compare, a_binary, a_negate, a_raised, a_numeral, a_measure, a_unit, a_flag, a_text, a_path, in_brackets, a_function, a_modulo, an_aggregate, HasArguments, one_tree, more_trees, one_area, more_areas}
-use Rattle.expr_grammar.specs.Kinds.{is_point, bracket_follows, point_follows, lone_word, word, kind_of, kinds, tokens_of}
+use Rattle.expr_grammar.specs.Kinds.{is_point, bracket_follows, point_follows, lone_word, word, kind_of, kinds}
 use Rattle.expr_grammar.specs.PathTokens as p
 use Rattle.expr_grammar.specs.PathTokens.{dot, component_tokens, slot_tokens, owner_tokens, path_tokens, CanOwn, IsPathOf, behind_point}
-use Rattle.expr_grammar.specs.Parse.{IsLexed, Parses}
-use Rattle.expr_grammar.specs.Spelled.{is_exponent, is_unit_name, IsUnitPower, is_quotable, IsNumeral, IsArea, IsSpelled, AreSpelled}
-use Rattle.expr_grammar.specs.Tree.{Tree, literal, unit_one, flag, text, path, negate, binary, power, compare, conditional, function, modulo, aggregate, Arguments, no_more, tree, cells}
+use Rattle.expr_grammar.specs.Parse.{Parses}
+use Rattle.expr_grammar.specs.Spelled.{is_exponent, is_unit_name, IsUnitPower, is_quotable, IsNumeral, IsSpelled, AreSpelled}
+use Rattle.expr_grammar.specs.Tree.{Tree, aggregate, Arguments, no_more, tree, cells}
 use Rattle.expr_grammar.proofs.TokenLemmas.{HasSome}
 use Rattle.expr_grammar.proofs.SpelledLemmas.{IsSpelledLexeme, AreSpelledLexemes, AreSpelledPlaced, lexed_from-spelled}
 

@@ -21,6 +21,7 @@ pub mod Printed
 pub mod TreeTokens
 pub mod Parse
 pub mod ReadBack
+pub mod Brackets
 pub mod PrintingLevels
 pub mod Examples
 pub mod SignNumbers

@@ -1,6 +1,6 @@
 -- The levels of the grammar as the code has them.
-use Rattle.expr_grammar.specs.declared.printing.Tightness.{Tightness}
-use Rattle.expr_grammar.specs.declared.printing.Tightness.TheVariants as tightness
+use Rattle.expr_grammar.specs.declared.tightness.Tightness.{Tightness}
+use Rattle.expr_grammar.specs.declared.tightness.Tightness.TheVariants as tightness
 use Rattle.expr_grammar.specs.Grammar.{Level, expression, comparison, sum, term, unary, powers, primary}
 
 abbrev pub level : Tightness → Level

@@ -1,7 +1,8 @@
 //! Laws of the definitions, each as the contract of a function with nothing to do.
+ghost use Rattle.expr_grammar.specs.Brackets.{PrintedFormHasTokens, BracketsAreNeeded};
 ghost use Rattle.expr_grammar.specs.Grammar.{HaveOneTree};
 ghost use Rattle.expr_grammar.specs.Numbered.{NumbersDontMatter};
-ghost use Rattle.expr_grammar.specs.ReadBack.{PrintedFormHasTree, PrintedFormIsRead, BracketsStandWhereNeeded, ParsedTreesAreSpelled};
+ghost use Rattle.expr_grammar.specs.ReadBack.{PrintedFormHasTree, PrintedFormIsRead, ParsedTreesAreSpelled};
 ghost use Rattle.expr_grammar.specs.References.{ReferencesAreCounted, ReferencesAreChanged};
 
 /// The references of a tree are as many as are counted, so their numbers begin at 0 and leave none
@@ -34,14 +35,16 @@ pub fn printed_form_is_read()
     ensures is_read { PrintedFormIsRead }
 {}
 
-/// Printing puts brackets round a part exactly where its form does not stand at the part's level by
-/// itself: there its tokens alone are not read as its tree.
-pub fn brackets_stand_where_needed()
-    ensures { BracketsStandWhereNeeded }
-{}
-
 /// The tree of a text can be spelled: its names are names, its numerals amounts that are not
 /// negative, its units those of the table, its exponents of one or two digits.
 pub fn parsed_trees_are_spelled()
     ensures { ParsedTreesAreSpelled }
+{}
+
+/// Brackets stand exactly where they are needed: the printed form of a tree is its tokens, and the
+/// tokens of a part have its tree at a level of the grammar exactly where the part is printed there
+/// without brackets. A literal with a unit under `^` is in brackets besides.
+pub fn brackets_are_needed()
+    ensures has_tokens { PrintedFormHasTokens }
+    ensures needed { BracketsAreNeeded }
 {}

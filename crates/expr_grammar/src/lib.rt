@@ -22,6 +22,7 @@ mod sign;
 mod stop;
 #[cfg(test)]
 mod tests;
+mod tightness;
 mod token;
 
 pub use expr::{Argument, Expr, Node, UnitPower};

@@ -3,11 +3,10 @@ ghost use Rattle.fc_base.specs.Places.{address_text};
 ghost use Rattle.quantities.specs.Texts.{decimal_text};
 ghost use Rattle.object_paths.specs.PathTexts.{path_text};
 ghost use Rattle.expr_grammar.specs.Functions.{function_name, aggregate_name};
-ghost use Rattle.expr_grammar.specs.Grammar.{binary_level, right_level, binary_sign, compare_sign};
-ghost use Rattle.expr_grammar.specs.Printed.{tightness, level_of, fits, is_measure, fits_as_base, exponent_text, measure_text, flag_text, area_text, bracketed, spaced, printed, printed_arguments};
+ghost use Rattle.expr_grammar.specs.Grammar.{binary_sign, compare_sign};
+ghost use Rattle.expr_grammar.specs.Printed.{exponent_text, measure_text, area_text, bracketed, spaced, printed, printed_arguments};
 ghost use Rattle.expr_grammar.specs.Levels.{arguments_of};
 ghost use Rattle.expr_grammar.specs.Parse.{IsLexed, Parses};
-ghost use Rattle.expr_grammar.specs.PrintingLevels.{level};
 ghost use Rattle.expr_grammar.specs.Signs.{sign_text};
 ghost use Rattle.expr_grammar.specs.Spelled.{IsSpelled};
 ghost use Rattle.expr_grammar.specs.Tree.{binary, compare, conditional, function, modulo};
@@ -15,83 +14,12 @@ ghost use Rattle.expr_grammar.specs.declared.token.Placed.{Placed};
 
 use crate::expr::{Argument, Expr, Node, UnitPower};
 use crate::operators::{AggregateOp, BinaryOp, CompareOp, FunctionOp};
+use crate::tightness::{Tightness, fits, fits_as_base, level_of_operation, level_of_right};
 use arrayvec::ArrayString;
 use fc_base::{Address, Area, TextValue};
 use object_paths::Path;
 use quantities::Amount;
 use std::alloc::{AllocError, Global};
-
-/// How tightly a form holds its parts together: the levels of the grammar, the loosest first.
-#[derive(Clone, Copy, Debug, PartialEq, Eq)]
-enum Tightness {
-    Expression,
-    Comparison,
-    Sum,
-    Term,
-    Unary,
-    Powers,
-    Primary,
-}
-
-impl Tightness {
-    /// The number of looser levels.
-    fn rank(self) -> u8
-        ensures { result ≡ tightness (level self) }
-    {
-        self as u8
-    }
-}
-
-/// The level of an operation, and of its left operand.
-fn level_of_operation(op: BinaryOp) -> Tightness
-    ensures { level result ≡ binary_level op }
-{
-    match op {
-        BinaryOp::Plus | BinaryOp::Minus => Tightness::Sum,
-        BinaryOp::Times | BinaryOp::Over | BinaryOp::Modulo => Tightness::Term,
-    }
-}
-
-/// The level of an operation's right operand.
-fn level_of_right(op: BinaryOp) -> Tightness
-    ensures { level result ≡ right_level op }
-{
-    match op {
-        BinaryOp::Plus | BinaryOp::Minus => Tightness::Term,
-        BinaryOp::Times | BinaryOp::Over | BinaryOp::Modulo => Tightness::Unary,
-    }
-}
-
-/// The level of the form at the top of an expression.
-fn level_of(tree: &Expr) -> Tightness
-    ensures { level result ≡ level_of tree.now }
-{
-    match &tree.node {
-        Node::Conditional(..) => Tightness::Expression,
-        Node::Compare(..) => Tightness::Comparison,
-        Node::Binary(op, ..) => level_of_operation(*op),
-        Node::Negate(_) => Tightness::Unary,
-        Node::Power(..) => Tightness::Powers,
-        _ => Tightness::Primary,
-    }
-}
-
-/// Whether the expression may stand at the level without brackets.
-fn fits(place: Tightness, tree: &Expr) -> bool
-    ensures { result ≡ fits (level place) tree.now }
-{
-    place.rank() <= level_of(tree).rank()
-}
-
-/// Whether the expression may be the base of a power without brackets.
-fn fits_as_base(tree: &Expr) -> bool
-    ensures { result ≡ fits_as_base tree.now }
-{
-    match &tree.node {
-        Node::Literal(_, Some(_)) => false,
-        _ => fits(Tightness::Powers, tree),
-    }
-}
 
 /// The text of an operation's sign.
 fn operation_text(op: BinaryOp) -> &'static str
@@ -240,8 +168,8 @@ fn push_in_place(
 /// Writes arguments with `; ` between them.
 #[cycle(printing)]
 #[tactic(auto, unfolding(crate::specs::Printed::printed, crate::specs::Printed::printed_arguments))]
-fn push_arguments(alloc: Global, all: &Vec<Argument>, out: &mut String) -> Result<(), AllocError>
-    ensures { OnOk result (string_bytes out.new ≡ string_bytes out.old ++ printed_arguments (arguments_of all.now.items)) }
+fn push_arguments(alloc: Global, all: &[Argument], out: &mut String) -> Result<(), AllocError>
+    ensures { OnOk result (string_bytes out.new ≡ string_bytes out.old ++ printed_arguments (arguments_of all.now)) }
 {
     let mut first = true;
     for argument in all {
@@ -373,7 +301,7 @@ fn push_tree(alloc: Global, tree: &Expr, out: &mut String) -> Result<(), AllocEr
         Node::Aggregate(op, all) => {
             out.push_str(aggregate_text(*op))?;
             out.push_str("(")?;
-            push_arguments(alloc, all, out)?;
+            push_arguments(alloc, all.as_slice(), out)?;
             out.push_str(")")
         }
     }

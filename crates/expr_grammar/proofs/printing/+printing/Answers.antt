@@ -7,11 +7,9 @@ use Rattle.expr_grammar.proofs.printing.+printing.Goals as goal
 
 pub push_arguments-push_tree-requires : goal.push_arguments-push_tree-requires
 push_arguments-push_tree-requires t c =
-    let items : List Argument = c.deref-argument-items.result.now in
-    let few : nodes_of (get_or items c.loop-argument.argument-index c.argument-item.result) ≤ argument_nodes (arguments_of items) =
-    argument_nodes-at items c.loop-argument.argument-index c.argument-item.result c.loop-argument-test.true in
-    let own : nodes_of (get_or items c.loop-argument.argument-index c.argument-item.result) ≡ node_count c.in-Tree.tree =
+    let all : List Argument = c.args.all.now in
+    let few : nodes_of (get_or all c.loop-argument.argument-index c.argument-item.result) ≤ argument_nodes (arguments_of all) =
+    argument_nodes-at all c.loop-argument.argument-index c.argument-item.result c.loop-argument-test.true in
+    let own : nodes_of (get_or all c.loop-argument.argument-index c.argument-item.result) ≡ node_count c.in-Tree.tree =
     ap nodes_of (sym c.argument-item.is ∙ c.in-Tree.is) in
-    let all : argument_nodes (arguments_of items) ≡ argument_nodes (arguments_of c.args.all.now.items) =
-    ap (λ (xs : List Argument). argument_nodes (arguments_of xs)) c.deref-argument-items.ensures.value in
     (omega arith, tt)

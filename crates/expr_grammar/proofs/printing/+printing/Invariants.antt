@@ -1,4 +1,4 @@
-use Rattle.std.proofs.Common.{◌≡◌, ℕ, ◌+◌, ◌*◌, List, [], ◌++◌, drop, cond, string_bytes}
+use Rattle.std.proofs.Common.{◌≡◌, ◌+◌, ◌*◌, [], ◌++◌, drop, cond, string_bytes}
 use Rattle.expr_grammar.specs.Levels.{arguments_of}
 use Rattle.expr_grammar.specs.Nodes.{node_count, argument_nodes}
 use Rattle.expr_grammar.specs.Printed.{separator_text, printed_arguments}
@@ -27,11 +27,11 @@ abbrev pub decreases-push_comparison : goal.decreases-push_comparison
 decreases-push_comparison l = 3 * (node_count l.left.now + node_count l.right.now) + 2
 
 abbrev pub decreases-push_arguments : goal.decreases-push_arguments
-decreases-push_arguments l = 3 * argument_nodes (arguments_of l.all.now.items) + 1
+decreases-push_arguments l = 3 * argument_nodes (arguments_of l.all.now) + 1
 
 -- what is written and the other arguments are the whole
 abbrev pub invariant-push_arguments-loop-argument : goal.invariant-push_arguments-loop-argument
 invariant-push_arguments-loop-argument l =
     string_bytes l.out
-    ++ (cond l.first [] (separator_text (arguments_of (drop l.argument-index l.argument-items))) ++ printed_arguments (arguments_of (drop l.argument-index l.argument-items)))
-    ≡ string_bytes l.initial.out ++ printed_arguments (arguments_of l.argument-items)
+    ++ (cond l.first [] (separator_text (arguments_of (drop l.argument-index l.all))) ++ printed_arguments (arguments_of (drop l.argument-index l.all)))
+    ≡ string_bytes l.initial.out ++ printed_arguments (arguments_of l.all)
