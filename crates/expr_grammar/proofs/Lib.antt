@@ -1,2 +1,12 @@
 pub mod ReferenceLemmas
 pub mod NumberedLemmas
+pub mod FrontLemmas
+pub mod PathFrontLemmas
+pub mod DescentSound
+pub mod StepsSound
+pub mod DescentShorter
+pub mod DescentEquations
+pub mod FrontComplete
+pub mod DescentComplete
+pub mod TreesRead
+pub mod OneTree

@@ -6,3 +6,17 @@ pub mod TreeFalls
 pub mod References
 pub mod Spelled
 pub mod Numbered
+pub mod Signs
+pub mod Longest
+pub mod Lexemes
+pub mod Functions
+pub mod Kinds
+pub mod Limits
+pub mod Misplaced
+pub mod PathTokens
+pub mod Grammar
+pub mod Printed
+pub mod Parse
+pub mod Examples
+pub mod SignNumbers
+pub mod Descent

@@ -1,4 +1,5 @@
 //! Laws of the definitions, each as the contract of a function with nothing to do.
+ghost use Rattle.expr_grammar.specs.Grammar.{HaveOneTree};
 ghost use Rattle.expr_grammar.specs.Numbered.{NumbersDontMatter};
 ghost use Rattle.expr_grammar.specs.References.{ReferencesAreCounted, ReferencesAreChanged};
 
@@ -18,4 +19,9 @@ pub fn references_are_changed()
 /// changed alike.
 pub fn numbers_dont_matter()
     ensures { NumbersDontMatter }
+{}
+
+/// A list of tokens has one tree at most, at each level of the grammar.
+pub fn tokens_have_one_tree()
+    ensures { HaveOneTree }
 {}
