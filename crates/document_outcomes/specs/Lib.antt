@@ -1,0 +1,5 @@
+pub mod Full
+pub mod Sorts
+pub mod Limits
+pub mod Cycles
+pub mod Faults

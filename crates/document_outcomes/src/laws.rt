@@ -1,0 +1,59 @@
+//! Laws of the definitions, each as the contract of a function with nothing to do.
+ghost use Rattle.std.specs.Prelude.{◌≡◌, ◌↔◌, IsTrue};
+ghost use Rattle.fc_base.specs.Graph.{Acyclic, IsFixpoint, IsIn, Reaches, ReadsOnlyDeps};
+ghost use Rattle.object_paths.specs.Slots.{Slot};
+ghost use Rattle.property_types.specs.Values.{Outcome};
+ghost use Rattle.expr_eval.specs.SortRows.{SortOutcome};
+ghost use Rattle.document_model.specs.Dependencies.{deps};
+ghost use Rattle.document_model.specs.Document.{Document};
+ghost use Rattle.document_model.specs.Slots.{slots};
+ghost use Rattle.document_outcomes.specs.Cycles.{HasNoCycle, is_cyclic};
+ghost use Rattle.document_outcomes.specs.Faults.{IsValid};
+ghost use Rattle.document_outcomes.specs.Full.{Meanings, full, local};
+ghost use Rattle.document_outcomes.specs.Sorts.{local_sort, sort};
+
+/// The outcome of a slot hangs on the outcomes of the slots that it depends on, and on nothing else.
+pub fn outcomes_read_dependencies_alone()
+    ensures { (m : Meanings) (d : Document) → ReadsOnlyDeps (deps d) (local m d) }
+{}
+
+/// The sort of a slot hangs on the sorts of the slots that it depends on, and on nothing else.
+pub fn sorts_read_dependencies_alone()
+    ensures { (d : Document) → ReadsOnlyDeps (deps d) (local_sort d) }
+{}
+
+/// The test for a slot that depends on itself, directly or through others, says exactly that.
+pub fn cyclic_slots_reach_themselves()
+    ensures { (d : Document) (s : Slot) → IsIn s (slots d) → IsTrue (is_cyclic d s) ↔ Reaches (deps d) s s }
+{}
+
+/// In a document without cycles, outcomes that are what the rule of each slot gives from them are
+/// the full outcomes.
+pub fn outcomes_are_full()
+    ensures { (m : Meanings) (d : Document) (w : Slot → Outcome)
+        → HasNoCycle d → IsFixpoint (local m d) (slots d) w → (s : Slot) → IsIn s (slots d) → full m d s ≡ w s }
+{}
+
+/// In a document without cycles, the full outcome of each slot is what its rule gives from the full
+/// outcomes.
+pub fn full_meets_its_rule()
+    ensures { (m : Meanings) (d : Document) → HasNoCycle d → IsFixpoint (local m d) (slots d) (full m d) }
+{}
+
+/// In a document without cycles, sorts that are what the rule of each slot gives from them are the
+/// sorts.
+pub fn sorts_are_full()
+    ensures { (d : Document) (w : Slot → SortOutcome)
+        → HasNoCycle d → IsFixpoint (local_sort d) (slots d) w → (s : Slot) → IsIn s (slots d) → sort d s ≡ w s }
+{}
+
+/// In a document without cycles, the sort of each slot is what its rule gives from the sorts.
+pub fn sort_meets_its_rule()
+    ensures { (d : Document) → HasNoCycle d → IsFixpoint (local_sort d) (slots d) (sort d) }
+{}
+
+/// In a valid document no slot depends on itself.
+pub fn a_valid_document_has_no_cycle()
+    ensures by_test { (d : Document) → IsValid d → HasNoCycle d }
+    ensures by_chains { (d : Document) → IsValid d → Acyclic (deps d) (slots d) }
+{}
