@@ -6,3 +6,4 @@ pub mod CycleLemmas
 pub mod FixpointLemmas
 pub mod FullLemmas
 pub mod FaultLemmas
+pub mod WorkedLemmas

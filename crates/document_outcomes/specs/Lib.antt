@@ -3,3 +3,8 @@ pub mod Sorts
 pub mod Limits
 pub mod Cycles
 pub mod Faults
+pub mod Called
+pub mod WorkedParts
+pub mod WorkedNumbers
+pub mod WorkedFaults
+pub mod WorkedLinks

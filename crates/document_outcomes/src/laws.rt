@@ -11,6 +11,9 @@ ghost use Rattle.document_outcomes.specs.Cycles.{HasNoCycle, is_cyclic};
 ghost use Rattle.document_outcomes.specs.Faults.{IsValid};
 ghost use Rattle.document_outcomes.specs.Full.{Meanings, full, local};
 ghost use Rattle.document_outcomes.specs.Sorts.{local_sort, sort};
+ghost use Rattle.document_outcomes.specs.WorkedFaults.{FirstFaultsWork};
+ghost use Rattle.document_outcomes.specs.WorkedLinks.{FeaturesWork, LinkFaultsWork, LinksWork, SheetWorks};
+ghost use Rattle.document_outcomes.specs.WorkedNumbers.{ChainWorks, FaultedWorks};
 
 /// The outcome of a slot hangs on the outcomes of the slots that it depends on, and on nothing else.
 pub fn outcomes_read_dependencies_alone()
@@ -56,4 +59,31 @@ pub fn sort_meets_its_rule()
 pub fn a_valid_document_has_no_cycle()
     ensures by_test { (d : Document) → IsValid d → HasNoCycle d }
     ensures by_chains { (d : Document) → IsValid d → Acyclic (deps d) (slots d) }
+{}
+
+/// Two VarSets of Floats that are bound in a chain have their outcomes, and so have VarSets in which
+/// outcomes are faults.
+pub fn numbers_work()
+    ensures chain { (m : Meanings) → ChainWorks m }
+    ensures faulted { (m : Meanings) → FaultedWorks m }
+{}
+
+/// A cycle, an unknown reference, sorts that do not fit, a value outside its type and a label that is
+/// taken are each the first fault of a document.
+pub fn first_faults_work()
+    ensures { FirstFaultsWork }
+{}
+
+/// A sheet with an area and an alias, and links that inherit and override, have their outcomes; and
+/// links have their first faults.
+pub fn sheets_and_links_work()
+    ensures sheet { (m : Meanings) → SheetWorks m }
+    ensures links { (m : Meanings) → LinksWork m }
+    ensures faults { LinkFaultsWork }
+{}
+
+/// Features and links to them have the outcomes of their input lists, and are called where these
+/// have changed.
+pub fn features_work()
+    ensures { FeaturesWork }
 {}
