@@ -1,4 +1,9 @@
 pub mod Gathering
+pub mod KindAggregates
+pub mod KindLemmas
+pub mod KindRows
+pub mod SameLemmas
+pub mod SameRows
+pub mod SpellingLemmas
 pub mod Totals
 pub mod UnitAmounts
-pub mod SpellingLemmas

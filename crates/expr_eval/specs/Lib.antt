@@ -6,3 +6,5 @@ pub mod Numbers
 pub mod Aggregates
 pub mod Outcomes
 pub mod Spelling
+pub mod Kinds
+pub mod Examples

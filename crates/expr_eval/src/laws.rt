@@ -1,5 +1,25 @@
 //! Laws of the definitions, each as the contract of a function with nothing to do.
+ghost use Rattle.fc_base.specs.Places.{Block};
+ghost use Rattle.expr_eval.specs.Examples.{ExpressionsWork};
+ghost use Rattle.expr_eval.specs.Kinds.{NoWrongOperands, OutcomeHasSort};
 ghost use Rattle.expr_eval.specs.Spelling.{OutcomeIgnoresRenaming, OutcomeIgnoresSpelling, SortIgnoresRenaming, SortIgnoresSpelling};
+
+/// Expressions have the sorts and outcomes that were worked out by hand.
+pub fn expressions_work()
+    ensures { (area : Block) → ExpressionsWork area }
+{}
+
+/// An expression that has a sort, for outcomes of the sorts behind its references, has a value of its
+/// sort or a value fault.
+pub fn outcome_has_sort()
+    ensures { OutcomeHasSort }
+{}
+
+/// In such an expression no operation meets operands of a kind or a unit that it does not want:
+/// whatever it gave on them, the outcome is the same.
+pub fn no_wrong_operands()
+    ensures { NoWrongOperands }
+{}
 
 /// The outcome of an expression hangs on what its references give, and not on how they are spelled.
 pub fn outcome_ignores_spelling()

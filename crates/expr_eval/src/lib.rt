@@ -12,8 +12,11 @@ mod references;
 mod sort_cause;
 mod sort_rows;
 mod sorts;
+#[cfg(test)]
+mod tests;
 
 pub use env::Env;
 pub use evaluation::evaluate;
+pub use references::reference_count;
 pub use sort_cause::{SortCause, SortFault, SortOutcome};
 pub use sorts::sort_of;

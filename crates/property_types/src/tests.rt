@@ -1,6 +1,6 @@
 use super::*;
 use arrayvec::ArrayString;
-use fc_base::{Name, TextValue};
+use fc_base::{Name, SlotId, TextValue};
 use quantities::{Amount, Quantity};
 use std::alloc::Global;
 use std::test::Fail;
@@ -185,5 +185,35 @@ fn copies_outcomes(rt: HostRuntime) -> Result<(), Fail> {
         Err(fault) => assert!(rt; fault == ValueFault::NotWhole),
         Ok(_) => return Err(Fail::new("a value")),
     }
+    Ok(())
+}
+
+/// Outcomes of the first slots, by their numbers.
+#[derive(Drop)]
+struct FirstOutcomes {
+    outcomes: Vec<Outcome>,
+}
+
+impl Outcomes for FirstOutcomes {
+    ghost use Rattle.std.specs.Prelude.{slice_get};
+
+    ghost outcomes = { λ o slot. slice_get o.outcomes.items slot.0 };
+
+    fn outcome(&self, slot: SlotId) -> Option<&Outcome> {
+        self.outcomes.get(slot.0 as usize)
+    }
+}
+
+fn has_outcome<O: Outcomes>(outcomes: &O, slot: SlotId) -> bool {
+    outcomes.outcome(slot).is_some()
+}
+
+#[test]
+fn keeps_outcomes(rt: HostRuntime) -> Result<(), Fail> {
+    let mut outcomes = Vec::new(rt.alloc());
+    outcomes.push(Err(ValueFault::Range))?;
+    let kept = FirstOutcomes { outcomes };
+    assert!(rt; has_outcome(&kept, SlotId(0)));
+    assert!(rt; !has_outcome(&kept, SlotId(1)));
     Ok(())
 }

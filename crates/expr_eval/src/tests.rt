@@ -1,0 +1,484 @@
+use super::*;
+use arrayvec::ArrayString;
+use expr_grammar::{AggregateOp, Argument, BinaryOp, CompareOp, Expr, FunctionOp, Node, UnitPower};
+use fc_base::{Address, Area, Name, SlotId, Steps, TextValue};
+use object_paths::{Owner, Path, SlotName};
+use property_types::{Outcome, Sort, Value, ValueFault};
+use quantities::{Amount, Quantity, read_decimal};
+use std::alloc::{AllocError, Global};
+use std::test::Fail;
+use unit_signatures::Unit;
+
+/// What stands behind the references: the k-th path has the k-th outcome and sort, and each area
+/// has the same cells, which are numbered likewise.
+#[derive(Drop)]
+struct Given {
+    outcomes: Vec<Outcome>,
+    sorts: Vec<SortOutcome>,
+    cells: Vec<SlotId>,
+    none: Outcome,
+}
+
+impl Env for Given {
+    ghost use Rattle.std.specs.Prelude.{map, slice_index_or, Err};
+    ghost use Rattle.expr_eval.specs.declared.sort_cause.SortCause.TheVariants.{KindMismatch};
+
+    ghost reading = { λ e. record {
+      at = λ k. slice_index_or e.outcomes.items k e.none;
+      inside = λ k. map (λ c. slice_index_or e.outcomes.items c.0 e.none) e.cells.items;
+    } };
+
+    ghost sort_reading = { λ e. record {
+      at = λ k. slice_index_or e.sorts.items k (Err KindMismatch);
+      inside = λ k. map (λ c. slice_index_or e.sorts.items c.0 (Err KindMismatch)) e.cells.items;
+    } };
+
+    ghost cell_outcome = { λ e c. slice_index_or e.outcomes.items c.0 e.none };
+
+    ghost cell_sort = { λ e c. slice_index_or e.sorts.items c.0 (Err KindMismatch) };
+
+    fn sort_at(&self, occurrence: u32) -> Result<Sort, SortCause> {
+        let k = occurrence as usize;
+        if k < self.sorts.len() {
+            self.sorts[k]
+        } else {
+            Err(SortCause::KindMismatch)
+        }
+    }
+
+    fn outcome_at(&self, occurrence: u32) -> &Outcome {
+        let k = occurrence as usize;
+        if k < self.outcomes.len() {
+            &self.outcomes[k]
+        } else {
+            &self.none
+        }
+    }
+
+    fn area_at(&self, _occurrence: u32) -> &[SlotId] {
+        &self.cells
+    }
+
+    fn sort_of_cell(&self, cell: SlotId) -> Result<Sort, SortCause> {
+        self.sort_at(cell.0)
+    }
+
+    fn outcome_of_cell(&self, cell: SlotId) -> &Outcome {
+        self.outcome_at(cell.0)
+    }
+}
+
+/// `2.5`, `2.5:mm` or `2.5:mm^2`
+fn literal(alloc: Global, word: &str) -> Result<Node, Fail> {
+    match word.split_once(':') {
+        None => Ok(Node::Literal(read_decimal(word.as_bytes())?, None)),
+        Some((number, power)) => {
+            let amount = read_decimal(number.as_bytes())?;
+            let (name, exponent) = match power.split_once('^') {
+                None => (power, 1),
+                Some((name, exponent)) => (name, exponent.parse::<i8>()?),
+            };
+            let unit = Name::read(alloc, name)?;
+            Ok(Node::Literal(amount, Some(UnitPower { unit, exponent })))
+        }
+    }
+}
+
+/// What a word stands for alone.
+fn leaf(alloc: Global, word: &str) -> Result<Node, Fail> {
+    if word == "true" || word == "false" {
+        return Ok(Node::Flag(word == "true"));
+    }
+    if word == "path" {
+        let slot = SlotName::Plain(Name::read(alloc, "a")?);
+        return Ok(Node::Path(Path {
+            owner: Owner::Here,
+            slot,
+        }));
+    }
+    if let Some(text) = word.strip_prefix('"') {
+        return Ok(Node::Text(TextValue::read(alloc, text)?));
+    }
+    if let Some(unit) = word.strip_prefix('=') {
+        return Ok(Node::UnitOne(Name::read(alloc, unit)?));
+    }
+    literal(alloc, word)
+}
+
+fn binary_op(word: &str) -> Option<BinaryOp> {
+    match word {
+        "+" => Some(BinaryOp::Plus),
+        "-" => Some(BinaryOp::Minus),
+        "*" => Some(BinaryOp::Times),
+        "/" => Some(BinaryOp::Over),
+        "%" => Some(BinaryOp::Modulo),
+        _ => None,
+    }
+}
+
+fn compare_op(word: &str) -> Option<CompareOp> {
+    match word {
+        "==" => Some(CompareOp::Equal),
+        "!=" => Some(CompareOp::NotEqual),
+        "<" => Some(CompareOp::Less),
+        "<=" => Some(CompareOp::LessOrEqual),
+        ">" => Some(CompareOp::Greater),
+        ">=" => Some(CompareOp::GreaterOrEqual),
+        _ => None,
+    }
+}
+
+fn function_op(word: &str) -> Option<FunctionOp> {
+    match word {
+        "abs" => Some(FunctionOp::Abs),
+        "ceil" => Some(FunctionOp::Ceil),
+        "floor" => Some(FunctionOp::Floor),
+        "round" => Some(FunctionOp::Round),
+        "trunc" => Some(FunctionOp::Trunc),
+        _ => None,
+    }
+}
+
+fn aggregate_op(word: &str) -> Option<AggregateOp> {
+    match word {
+        "sum" => Some(AggregateOp::Sum),
+        "average" => Some(AggregateOp::Average),
+        "count" => Some(AggregateOp::Count),
+        "min" => Some(AggregateOp::Min),
+        "max" => Some(AggregateOp::Max),
+        _ => None,
+    }
+}
+
+/// Operands that are not used yet, the last one at the end.
+#[derive(Drop)]
+struct Operands {
+    alloc: Global,
+    items: Vec<Argument>,
+}
+
+impl Operands {
+    fn push(&mut self, item: Argument) -> Result<(), AllocError> {
+        self.items.push(item)?;
+        Ok(())
+    }
+
+    fn boxed(&self, tree: Expr) -> Result<Box<Expr>, AllocError> {
+        Ok(Box::new(self.alloc, tree)?)
+    }
+
+    fn pop_tree(&mut self) -> Result<Expr, Fail> {
+        match self.items.pop() {
+            Some(Argument::Tree(tree)) => Ok(tree),
+            _ => Err(Fail::new("no operand")),
+        }
+    }
+
+    fn pop(&mut self) -> Result<Box<Expr>, Fail> {
+        let tree = self.pop_tree()?;
+        Ok(self.boxed(tree)?)
+    }
+
+    fn pop_two(&mut self) -> Result<(Box<Expr>, Box<Expr>), Fail> {
+        let right = self.pop()?;
+        let left = self.pop()?;
+        Ok((left, right))
+    }
+
+    /// What a word makes of the operands before it. A function of many numbers takes all.
+    fn node(&mut self, word: &str) -> Result<Node, Fail> {
+        if let Some(op) = binary_op(word) {
+            let (left, right) = self.pop_two()?;
+            return Ok(Node::Binary(op, left, right));
+        }
+        if let Some(op) = compare_op(word) {
+            let (left, right) = self.pop_two()?;
+            return Ok(Node::Compare(op, left, right));
+        }
+        if let Some(op) = function_op(word) {
+            return Ok(Node::Function(op, self.pop()?));
+        }
+        if let Some(op) = aggregate_op(word) {
+            let all = std::mem::replace(&mut self.items, Vec::new(self.alloc));
+            return Ok(Node::Aggregate(op, all));
+        }
+        if let Some(exponent) = word.strip_prefix('^') {
+            let exponent = exponent.parse::<i8>()?;
+            return Ok(Node::Power(self.pop()?, exponent));
+        }
+        match word {
+            "neg" => Ok(Node::Negate(self.pop()?)),
+            "mod" => {
+                let (left, right) = self.pop_two()?;
+                Ok(Node::Modulo(left, right))
+            }
+            "?" => {
+                let (left, right) = self.pop_two()?;
+                Ok(Node::Conditional(self.pop()?, left, right))
+            }
+            _ => leaf(self.alloc, word),
+        }
+    }
+}
+
+fn area() -> Result<Area, Fail> {
+    let from = Address::read("A1").ok_or("no address")?;
+    let to = Address::read("B2").ok_or("no address")?;
+    Ok(Area::of(from, to).ok_or("no area")?)
+}
+
+/// The expression of a text with each operation behind its operands.
+fn build(alloc: Global, text: &str) -> Result<Expr, Fail> {
+    let mut operands = Operands {
+        alloc,
+        items: Vec::new(alloc),
+    };
+    for word in text.split_whitespace() {
+        if word == "area" {
+            operands.push(Argument::Cells(area()?))?;
+        } else {
+            let node = operands.node(word)?;
+            operands.push(Argument::Tree(Expr { node }))?;
+        }
+    }
+    operands.pop_tree()
+}
+
+/// The text of a number's unit, or the kind of another sort.
+fn sort_text(alloc: Global, sort: Sort) -> Result<String, AllocError> {
+    match sort {
+        Sort::Number(unit) => {
+            let mut text = ArrayString::new();
+            unit.write(&mut text);
+            String::from_str(alloc, text.as_str())
+        }
+        Sort::Flag => String::from_str(alloc, "a flag"),
+        Sort::Text => String::from_str(alloc, "a text"),
+    }
+}
+
+/// An outcome as a text: `3 mm`, `true`, `"a text` or the name of a fault.
+fn outcome_text(alloc: Global, outcome: &Outcome) -> Result<String, Fail> {
+    match outcome {
+        Ok(Value::Number(number)) => {
+            let mut text = ArrayString::new();
+            number.amount.write_decimal(&mut text);
+            let unit = sort_text(alloc, Sort::Number(number.unit))?;
+            Ok(format!(in alloc; "{} {}", text.as_str(), unit.as_str())?)
+        }
+        Ok(Value::Flag(flag)) => Ok(format!(in alloc; "{flag}")?),
+        Ok(Value::Text(text)) => Ok(format!(in alloc; "\"{}", text.as_str())?),
+        Err(fault) => Ok(format!(in alloc; "{fault:?}")?),
+    }
+}
+
+/// The sort of an expression, as a text.
+fn sort_told(alloc: Global, text: &str, env: &Given) -> Result<String, Fail> {
+    let tree = build(alloc, text)?;
+    if reference_count(&tree) == u32::MAX {
+        return Err(Fail::new("too many references"));
+    }
+    let sort = sort_of(alloc, &tree, env);
+    match &sort {
+        Ok(sort) => Ok(sort_text(alloc, *sort)?),
+        Err(SortFault::Cause(cause)) => Ok(format!(in alloc; "{cause:?}")?),
+        Err(SortFault::Memory(_)) => Err(Fail::new("out of memory")),
+    }
+}
+
+/// The outcome of an expression, as a text, and the steps that it took.
+fn outcome_told(alloc: Global, text: &str, env: &Given) -> Result<(String, u64), Fail> {
+    let tree = build(alloc, text)?;
+    if reference_count(&tree) == u32::MAX {
+        return Err(Fail::new("too many references"));
+    }
+    let mut steps = Steps::new("no ledger");
+    let outcome = evaluate(alloc, &tree, env, &mut steps)?;
+    Ok((outcome_text(alloc, &outcome)?, steps.count()))
+}
+
+fn number(raw: i128, unit: Unit) -> Result<Outcome, Fail> {
+    let amount = Amount::of_raw(raw).map_err(|_| "out of range")?;
+    Ok(Ok(Value::Number(Quantity { amount, unit })))
+}
+
+/// Three pure numbers, 3, 4 and one that is the fault DivideByZero, then a flag; the cells are the
+/// first so many of them.
+fn three_cells(alloc: Global, cells: u32) -> Result<Given, Fail> {
+    let mut outcomes = Vec::new(alloc);
+    let mut sorts = Vec::new(alloc);
+    for raw in [3_000_000_000, 4_000_000_000] {
+        let outcome = number(raw, Unit::pure())?;
+        push_outcome(&mut outcomes, outcome)?;
+        push_sort(&mut sorts, Sort::Number(Unit::pure()))?;
+    }
+    push_outcome(&mut outcomes, Err(ValueFault::DivideByZero))?;
+    push_sort(&mut sorts, Sort::Number(Unit::pure()))?;
+    push_outcome(&mut outcomes, Ok(Value::Flag(true)))?;
+    push_sort(&mut sorts, Sort::Flag)?;
+    let mut numbers = Vec::new(alloc);
+    for cell in 0..cells {
+        numbers.push(SlotId(cell))?;
+    }
+    Ok(Given {
+        outcomes,
+        sorts,
+        cells: numbers,
+        none: Err(ValueFault::Range),
+    })
+}
+
+fn push_sort(sorts: &mut Vec<SortOutcome>, sort: Sort) -> Result<(), AllocError> {
+    sorts.push(Ok(sort))?;
+    Ok(())
+}
+
+fn push_outcome(outcomes: &mut Vec<Outcome>, outcome: Outcome) -> Result<(), AllocError> {
+    outcomes.push(outcome)?;
+    Ok(())
+}
+
+/// How many cells an area has, expressions with the operations behind their operands, and their
+/// outcomes.
+static OUTCOMES: [(u32, &str, &str); 73] = [
+    (0, "2.5", "2.5 "),
+    (0, "2.5:mm^2", "2.5 mm^2"),
+    (0, "1:in", "25.4 mm"),
+    (0, "2:m^2", "2000000 mm^2"),
+    (0, "1:m^-1", "0.001 mm^-1"),
+    (0, "1000000:nm^2", "0 mm^2"),
+    (0, "=N", "1000 mm*kg*s^-2"),
+    (0, "=gon", "0.9 deg"),
+    (0, "true", "true"),
+    (0, "\"abc", "\"abc"),
+    (0, "2 ^2 neg", "-4 "),
+    (0, "2:mm ^3", "8 mm^3"),
+    (0, "2:mm ^-2", "0.25 mm^-2"),
+    (0, "0 ^-1", "DivideByZero"),
+    (0, "0 ^0", "1 "),
+    (0, "7 neg 3 %", "-1 "),
+    (0, "7 3 neg mod", "1 "),
+    (0, "7.5:mm 2:mm %", "1.5 mm"),
+    (0, "1:m 2:mm +", "1002 mm"),
+    (0, "1:m 2:mm -", "998 mm"),
+    (0, "2:mm 3:kg *", "6 mm*kg"),
+    (0, "2:mm 3:s /", "0.666666667 mm*s^-1"),
+    (0, "2 neg 3 /", "-0.666666667 "),
+    (0, "1 0 /", "DivideByZero"),
+    (0, "1 0 %", "DivideByZero"),
+    (0, "1e10 1e10 *", "Range"),
+    (0, "1e19 1e19 neg +", "0 "),
+    (0, "1e19 neg 1e-9 -", "Range"),
+    (0, "1 0 / 1e10 1e10 * +", "DivideByZero"),
+    (0, "1e10 1e10 * 1 0 / +", "Range"),
+    (0, "7850:kg =m ^3 /", "0.00000785 mm^-3*kg"),
+    (0, "0.5 1000000000 /", "0.000000001 "),
+    (0, "0.5 neg 1000000000 /", "-0.000000001 "),
+    (0, "0.4 1000000000 /", "0 "),
+    (0, "1000000000 10000000000 *", "10000000000000000000 "),
+    (0, "=m", "1000 mm"),
+    (0, "\"a 1 ==", "false"),
+    (0, "1.5:m floor", "1500 mm"),
+    (0, "2.5 neg floor", "-3 "),
+    (0, "2.5 neg ceil", "-2 "),
+    (0, "2.5 neg round", "-3 "),
+    (0, "2.5 neg trunc", "-2 "),
+    (0, "2.5 neg abs", "2.5 "),
+    (0, "1:m 1000:mm ==", "true"),
+    (0, "1:m 1000:mm !=", "false"),
+    (0, "\"a \"b ==", "false"),
+    (0, "true true ==", "true"),
+    (0, "1 2 <", "true"),
+    (0, "2 2 <", "false"),
+    (0, "2 2 <=", "true"),
+    (0, "2 2 >", "false"),
+    (0, "2 2 >=", "true"),
+    (0, "1 2 >=", "false"),
+    (0, "true 2 1 0 / ?", "2 "),
+    (0, "false 2 1 0 / ?", "DivideByZero"),
+    (0, "1 0 / 1 == 2 3 ?", "DivideByZero"),
+    (0, "path path +", "7 "),
+    (0, "4 neg 1 neg > 1 0 / 3 ?", "3 "),
+    (0, "4 neg 2 2.5 round max", "3 "),
+    (0, "1:mm 2:mm 2:mm average", "1.666666667 mm"),
+    (0, "3:mm 1:mm 2:mm min", "1 mm"),
+    (0, "1e19 1e19 1 0 / sum", "DivideByZero"),
+    (0, "1e19 1e19 1e19 neg sum", "Range"),
+    (0, "area sum", "0 "),
+    (0, "area count", "0 "),
+    (0, "area average", "EmptyAggregate"),
+    (0, "area min", "EmptyAggregate"),
+    (0, "area max", "EmptyAggregate"),
+    (2, "area sum", "7 "),
+    (2, "1 area area count", "5 "),
+    (2, "area 10 average", "5.666666667 "),
+    (2, "area path sum", "11 "),
+    (3, "area count", "DivideByZero"),
+];
+
+/// How many cells an area has, expressions, and their sorts.
+static SORTS: [(u32, &str, &str); 26] = [
+    (0, "1:mm^8", "ExponentRange"),
+    (0, "1:mm^-8", "mm^-8"),
+    (0, "1:mm^4 1:mm^3 *", "mm^7"),
+    (0, "1:mm^4 1:mm^4 *", "ExponentRange"),
+    (0, "1:mm^-4 1:mm^5 /", "ExponentRange"),
+    (0, "=N ^4", "mm^4*kg^4*s^-8"),
+    (0, "=N ^5", "ExponentRange"),
+    (0, "1:mm 2 +", "UnitMismatch"),
+    (0, "1:mm true +", "KindMismatch"),
+    (0, "1:mm 2 + true +", "UnitMismatch"),
+    (0, "true 1:mm 2 + +", "UnitMismatch"),
+    (0, "true 1:mm^8 + 1:mm 2 + +", "ExponentRange"),
+    (0, "1:mm 2 <", "UnitMismatch"),
+    (0, "1:mm 2 ==", "UnitMismatch"),
+    (0, "\"a true ==", "KindMismatch"),
+    (0, "\"a \"b ==", "a flag"),
+    (0, "\"a \"b <", "KindMismatch"),
+    (0, "1 1:mm 2 ?", "KindMismatch"),
+    (0, "true 1:mm 2 ?", "UnitMismatch"),
+    (0, "true \"a \"b ?", "a text"),
+    (0, "1:mm 2:s true sum", "KindMismatch"),
+    (0, "1:mm 2:s sum", "UnitMismatch"),
+    (0, "1:mm 2:mm count", ""),
+    (0, "area min", ""),
+    (3, "1:mm area sum", "UnitMismatch"),
+    (4, "area sum", "KindMismatch"),
+];
+
+#[test]
+fn evaluates(rt: HostRuntime) -> Result<(), Fail> {
+    for (cells, text, want) in &OUTCOMES {
+        let env = three_cells(rt.alloc(), *cells)?;
+        let (told, _) = outcome_told(rt.alloc(), text, &env)?;
+        assert_eq!(rt; told.as_str(), *want, "{text}");
+    }
+    Ok(())
+}
+
+#[test]
+fn finds_sorts(rt: HostRuntime) -> Result<(), Fail> {
+    for (cells, text, want) in &SORTS {
+        let env = three_cells(rt.alloc(), *cells)?;
+        let told = sort_told(rt.alloc(), text, &env)?;
+        assert_eq!(rt; told.as_str(), *want, "{text}");
+    }
+    Ok(())
+}
+
+#[test]
+fn counts_steps(rt: HostRuntime) -> Result<(), Fail> {
+    for (text, want) in [
+        ("2", 1),
+        ("path 1 +", 3),
+        ("true 1 2 neg ?", 3),
+        ("false 1 2 neg ?", 4),
+        ("1 0 / 2 +", 5),
+        ("area 1 2 neg sum", 4),
+    ] {
+        let env = three_cells(rt.alloc(), 2)?;
+        let (_, steps) = outcome_told(rt.alloc(), text, &env)?;
+        assert_eq!(rt; steps, want, "{text}");
+    }
+    Ok(())
+}
