@@ -5,5 +5,6 @@ pub mod SlotTests
 pub mod CycleLemmas
 pub mod FixpointLemmas
 pub mod FullLemmas
+pub mod SearchLemmas
 pub mod FaultLemmas
 pub mod WorkedLemmas

@@ -3,6 +3,7 @@ pub mod Sorts
 pub mod Limits
 pub mod Cycles
 pub mod Faults
+pub mod NoFault
 pub mod Called
 pub mod WorkedParts
 pub mod WorkedNumbers

@@ -10,6 +10,7 @@ ghost use Rattle.document_model.specs.Slots.{slots};
 ghost use Rattle.document_outcomes.specs.Cycles.{HasNoCycle, is_cyclic};
 ghost use Rattle.document_outcomes.specs.Faults.{IsValid};
 ghost use Rattle.document_outcomes.specs.Full.{Meanings, full, local};
+ghost use Rattle.document_outcomes.specs.NoFault.{HasNoFault};
 ghost use Rattle.document_outcomes.specs.Sorts.{local_sort, sort};
 ghost use Rattle.document_outcomes.specs.WorkedFaults.{FirstFaultsWork};
 ghost use Rattle.document_outcomes.specs.WorkedLinks.{FeaturesWork, LinkFaultsWork, LinksWork, SheetWorks};
@@ -53,6 +54,11 @@ pub fn sorts_are_full()
 /// In a document without cycles, the sort of each slot is what its rule gives from the sorts.
 pub fn sort_meets_its_rule()
     ensures { (d : Document) → HasNoCycle d → IsFixpoint (local_sort d) (slots d) (sort d) }
+{}
+
+/// A document is valid exactly where it has no fault of any kind.
+pub fn valid_documents_have_no_fault()
+    ensures { (d : Document) → IsValid d ↔ HasNoFault d }
 {}
 
 /// In a valid document no slot depends on itself.
