@@ -5,9 +5,9 @@ ghost use Rattle.object_paths.specs.Slots.{Slot};
 ghost use Rattle.property_types.specs.Values.{Outcome};
 ghost use Rattle.expr_eval.specs.SortRows.{SortOutcome};
 ghost use Rattle.document_model.specs.Dependencies.{deps};
-ghost use Rattle.document_model.specs.Document.{Document};
+ghost use Rattle.document_model.specs.Document.{Document, Object};
 ghost use Rattle.document_model.specs.Slots.{slots};
-ghost use Rattle.document_outcomes.specs.Cycles.{HasNoCycle, is_cyclic};
+ghost use Rattle.document_outcomes.specs.Cycles.{HasNoCycle, is_cyclic, leads_back, targets};
 ghost use Rattle.document_outcomes.specs.Faults.{IsValid};
 ghost use Rattle.document_outcomes.specs.Full.{Meanings, full, local};
 ghost use Rattle.document_outcomes.specs.NoFault.{HasNoFault};
@@ -29,6 +29,11 @@ pub fn sorts_read_dependencies_alone()
 /// The test for a slot that depends on itself, directly or through others, says exactly that.
 pub fn cyclic_slots_reach_themselves()
     ensures { (d : Document) (s : Slot) → IsIn s (slots d) → IsTrue (is_cyclic d s) ↔ Reaches (deps d) s s }
+{}
+
+/// The test for a link whose targets lead back to it says exactly that.
+pub fn links_that_lead_back_reach_themselves()
+    ensures { (d : Document) (o : Object) → IsIn o d.objects → IsTrue (leads_back d o) ↔ Reaches (targets d) o.name o.name }
 {}
 
 /// In a document without cycles, outcomes that are what the rule of each slot gives from them are
