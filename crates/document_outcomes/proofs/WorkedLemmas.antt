@@ -61,6 +61,8 @@ first_faults_work = record {
   pure = refl;
   range = refl;
   sort_first = refl;
+  brackets_32 = refl;
+  brackets_33 = refl;
   label = refl;
 }
 

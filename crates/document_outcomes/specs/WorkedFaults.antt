@@ -1,10 +1,10 @@
 -- Documents whose first fault is worked out.
-use Rattle.std.specs.Prelude.{◌≡◌, pos, negsuc, false, true, [], ◌∷◌, Some, None, codes}
+use Rattle.std.specs.Prelude.{◌≡◌, ℕ, zero, suc, pos, negsuc, false, true, [], ◌∷◌, Some, None, codes}
 use Rattle.property_types.specs.declared.prop_type.PropType.TheVariants.{Float, Length}
 use Rattle.property_types.specs.declared.value.Value.TheVariants.{Number}
 use Rattle.property_types.specs.Types.{unit_of}
-use Rattle.expr_grammar.specs.declared.operators.BinaryOp.TheVariants.{Times}
-use Rattle.expr_grammar.specs.Tree.{literal, flag, binary}
+use Rattle.expr_grammar.specs.declared.operators.BinaryOp.TheVariants.{Minus, Times}
+use Rattle.expr_grammar.specs.Tree.{Tree, literal, flag, binary}
 use Rattle.document_model.specs.declared.content.Content.{Content}
 use Rattle.document_model.specs.declared.content.Content.TheVariants.{Own, Bound}
 use Rattle.document_model.specs.Document.{Document}
@@ -60,6 +60,14 @@ labelled_alike =
     ∷ record (var_set (codes "W") (property Float (codes "c") (Bound (its (codes "nothing"))) ∷ [])) { label = codes "V" }
     ∷ [])
 
+-- `1 - (1 - (1 - .. ))`, with one bracket less than there are differences
+abbrev pub nested : ℕ → Tree
+nested zero = numeral 1
+nested (suc n) = binary Minus (numeral 1) (nested n)
+
+abbrev pub with_float : Content → Document
+with_float content = document_of (var_set (codes "V") (property Float (codes "a") content ∷ []) ∷ [])
+
 -- the first fault of each: a cycle is named by the first slot in it, an unknown reference comes before
 -- the cycle of an earlier slot, a sort that is missing before an earlier value outside its type, and a
 -- label that is taken before all of these. A pure number is given to a Length without a fault
@@ -73,4 +81,6 @@ pub record FirstFaultsWork : Type 0 where
   pub pure : first_fault (with_length (Bound (numeral 3))) ≡ None
   pub range : first_fault (with_length below_zero) ≡ Some (record { number = 10; subject = codes "V.l" })
   pub sort_first : first_fault two_faults ≡ Some (record { number = 16; subject = codes "V.m" })
+  pub brackets_32 : first_fault (with_float (Bound (nested 33))) ≡ None
+  pub brackets_33 : first_fault (with_float (Bound (nested 34))) ≡ Some (record { number = 29; subject = [] })
   pub label : first_fault labelled_alike ≡ Some (record { number = 6; subject = codes "W" })
