@@ -1,6 +1,6 @@
 -- A document without a fault has no fault of any kind, and the other way round.
-use Rattle.std.proofs.Common.{◌≡◌, ◌↔◌, ℕ, Bool, true, false, ◌||◌, not, List, [], ◌∷◌, cond, Some, None, refl, sym, subst}
-use Rattle.std.specs.Prelude.{Option, find, Ok, Err}
+use Rattle.std.proofs.Common.{◌≡◌, Bool, true, false, ◌||◌, not, [], cond, Some, None, refl, subst}
+use Rattle.std.specs.Prelude.{find, Ok, Err}
 use Rattle.std.specs.List.{list_any}
 use Rattle.std.specs.Option.{option_map, option_or}
 use Rattle.fc_base.specs.Graph.{IsIn}
@@ -14,7 +14,7 @@ use Rattle.document_model.specs.declared.content.Content.{Content}
 use Rattle.document_model.specs.Document.{Document, Object}
 use Rattle.document_model.specs.Slots.{Rule, own, bound, inherit, global, output, Row, rows, slot_of, slots, type_of, rule_of}
 use Rattle.document_outcomes.specs.Cycles.{is_cyclic, leads_back, HasNoCycle}
-use Rattle.document_outcomes.specs.Faults.{Fault, object_fault, slot_fault, limit_faults, label_faults, has_taken_label, link_faults, lacks_bounds, reference_fault, reference_faults, lacks_object, is_mirrored, stray_override, is_unknown, has_unknown, cycle_faults, sort_fault, sort_faults, is_outside, range_faults, fault_within_limits, first_fault, IsValid}
+use Rattle.document_outcomes.specs.Faults.{object_fault, slot_fault, limit_faults, label_faults, has_taken_label, link_faults, lacks_bounds, reference_fault, reference_faults, lacks_object, is_mirrored, stray_override, is_unknown, has_unknown, cycle_faults, sort_fault, sort_faults, is_outside, range_faults, fault_within_limits, first_fault, IsValid}
 use Rattle.document_outcomes.specs.Limits.{has_too_many, has_too_large}
 use Rattle.document_outcomes.specs.NoFault.{HasNoFault}
 use Rattle.document_outcomes.specs.Sorts.{sort}
@@ -82,14 +82,14 @@ module _ (d : Document) where
       let link = find-none (λ (o : Object). leads_back d o || list_any (lacks_bounds d) o.members) d.objects (map_none (object_fault 23) (find (λ (o : Object). leads_back d o || list_any (lacks_bounds d) o.members) d.objects) k.links) in
       let each_link : (o : Object) → IsIn o d.objects → (leads_back d o ≡ false) × (list_any (lacks_bounds d) o.members ≡ false) = λ o i. or_false (leads_back d o) (list_any (lacks_bounds d) o.members) (link o i) in
       let part = λ (o : Object) (i : IsIn o d.objects).
-          or_none (cond (lacks_object d o) (Some (object_fault 12 o)) None)
-          (option_or (option_map (λ (e : SlotName × Content). slot_fault 12 (slot_of o e.0)) (stray_override d o))
-          (option_map (λ (r : Row). slot_fault 12 (slot_of o r.name)) (find (λ (r : Row). has_unknown d o r.rule) (rows d o))))
-          (first_some-none (reference_fault d) d.objects k.references o i) in
+      or_none (cond (lacks_object d o) (Some (object_fault 12 o)) None)
+      (option_or (option_map (λ (e : SlotName × Content). slot_fault 12 (slot_of o e.0)) (stray_override d o))
+      (option_map (λ (r : Row). slot_fault 12 (slot_of o r.name)) (find (λ (r : Row). has_unknown d o r.rule) (rows d o))))
+      (first_some-none (reference_fault d) d.objects k.references o i) in
       let rest = λ (o : Object) (i : IsIn o d.objects).
-          or_none (option_map (λ (e : SlotName × Content). slot_fault 12 (slot_of o e.0)) (stray_override d o))
-          (option_map (λ (r : Row). slot_fault 12 (slot_of o r.name)) (find (λ (r : Row). has_unknown d o r.rule) (rows d o)))
-          (part o i).1 in
+      or_none (option_map (λ (e : SlotName × Content). slot_fault 12 (slot_of o e.0)) (stray_override d o))
+      (option_map (λ (r : Row). slot_fault 12 (slot_of o r.name)) (find (λ (r : Row). has_unknown d o r.rule) (rows d o)))
+      (part o i).1 in
       record {
         counts = limits.0;
         sizes = limits.1;

@@ -8,3 +8,4 @@ pub mod FullLemmas
 pub mod SearchLemmas
 pub mod FaultLemmas
 pub mod WorkedLemmas
+pub mod OrderLemmas

@@ -1,7 +1,7 @@
 -- Slots that depend on themselves, and links whose targets lead back to them.
-use Rattle.std.specs.Prelude.{◌≡◌, ℕ, Bool, false, List, length}
+use Rattle.std.specs.Prelude.{◌≡◌, ℕ, Bool, false, List, [], length}
 use Rattle.std.specs.Option.{option_map, option_and_then, option_to_list}
-use Rattle.fc_base.specs.Graph.{IsIn, reaches_in}
+use Rattle.fc_base.specs.Graph.{IsIn, IsOrdered, reaches_in}
 use Rattle.object_paths.specs.Slots.{Slot, same_slot, same_text}
 use Rattle.document_model.specs.Document.{Document, Object, object_named}
 use Rattle.document_model.specs.Slots.{slots}
@@ -14,6 +14,11 @@ is_cyclic d s = reaches_in same_slot (deps d) (length (slots d)) s s
 -- no slot of the document depends on itself
 abbrev pub HasNoCycle : Document → Type 0
 HasNoCycle d = (s : Slot) → IsIn s (slots d) → is_cyclic d s ≡ false
+
+-- all slots of the document stand in the order, each behind its dependencies
+pub record OrdersSlots (d : Document) (order : List Slot) : Type 0 where
+  pub ordered : IsOrdered (deps d) [] order
+  pub all : (s : Slot) → IsIn s (slots d) → IsIn s order
 
 -- the name of a link's target, where the document has an object of that name
 abbrev pub targets : Document → List ℕ → List (List ℕ)

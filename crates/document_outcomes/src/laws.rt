@@ -1,13 +1,13 @@
 //! Laws of the definitions, each as the contract of a function with nothing to do.
-ghost use Rattle.std.specs.Prelude.{◌≡◌, ◌↔◌, IsTrue};
-ghost use Rattle.fc_base.specs.Graph.{Acyclic, IsFixpoint, IsIn, Reaches, ReadsOnlyDeps};
+ghost use Rattle.std.specs.Prelude.{◌≡◌, ◌↔◌, IsTrue, List};
+ghost use Rattle.fc_base.specs.Graph.{Acyclic, EvaluatesAll, IsFixpoint, IsIn, Reaches, ReadsOnlyDeps};
 ghost use Rattle.object_paths.specs.Slots.{Slot};
 ghost use Rattle.property_types.specs.Values.{Outcome};
 ghost use Rattle.expr_eval.specs.SortRows.{SortOutcome};
 ghost use Rattle.document_model.specs.Dependencies.{deps};
 ghost use Rattle.document_model.specs.Document.{Document, Object};
 ghost use Rattle.document_model.specs.Slots.{slots};
-ghost use Rattle.document_outcomes.specs.Cycles.{HasNoCycle, is_cyclic, leads_back, targets};
+ghost use Rattle.document_outcomes.specs.Cycles.{HasNoCycle, OrdersSlots, is_cyclic, leads_back, targets};
 ghost use Rattle.document_outcomes.specs.Faults.{IsValid};
 ghost use Rattle.document_outcomes.specs.Full.{Meanings, full, local};
 ghost use Rattle.document_outcomes.specs.NoFault.{HasNoFault};
@@ -59,6 +59,17 @@ pub fn sorts_are_full()
 /// In a document without cycles, the sort of each slot is what its rule gives from the sorts.
 pub fn sort_meets_its_rule()
     ensures { (d : Document) → HasNoCycle d → IsFixpoint (local_sort d) (slots d) (sort d) }
+{}
+
+/// Where the slots of a document stand in an order, each behind its dependencies, none depends on
+/// itself; and what is found slot by slot in that order, whatever stood before, are the full
+/// outcomes, and the sorts.
+pub fn evaluation_in_order_is_full()
+    ensures no_cycle { (d : Document) (order : List Slot) → OrdersSlots d order → HasNoCycle d }
+    ensures outcomes { (m : Meanings) (d : Document) (order : List Slot) (v w : Slot → Outcome)
+        → OrdersSlots d order → EvaluatesAll (local m d) order v w → (s : Slot) → IsIn s (slots d) → full m d s ≡ w s }
+    ensures sorts { (d : Document) (order : List Slot) (v w : Slot → SortOutcome)
+        → OrdersSlots d order → EvaluatesAll (local_sort d) order v w → (s : Slot) → IsIn s (slots d) → sort d s ≡ w s }
 {}
 
 /// A document is valid exactly where it has no fault of any kind.
