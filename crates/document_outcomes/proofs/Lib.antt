@@ -1,0 +1,11 @@
+pub mod AgreementLemmas
+pub mod OutcomeLemmas
+pub mod SortLemmas
+pub mod SlotTests
+pub mod CycleLemmas
+pub mod FixpointLemmas
+pub mod FullLemmas
+pub mod SearchLemmas
+pub mod FaultLemmas
+pub mod WorkedLemmas
+pub mod OrderLemmas

@@ -1,0 +1,11 @@
+pub mod Full
+pub mod Sorts
+pub mod Limits
+pub mod Cycles
+pub mod Faults
+pub mod NoFault
+pub mod Called
+pub mod WorkedParts
+pub mod WorkedNumbers
+pub mod WorkedFaults
+pub mod WorkedLinks
