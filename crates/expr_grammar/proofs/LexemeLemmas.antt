@@ -73,13 +73,6 @@ placed_from (front {x} {c} w rest {xs} dark here more) place =
       lexemes = ap (λ ys. x ∷ ys) later.lexemes;
     }
 
--- one word in front
-module _ {x : Lexeme} {xs : List Lexeme} where
-  pub word_front : (w rest : List ℕ) → 0 < length w → is_blank (get_or w 0 0) ≡ false → lexeme_at (w ++ rest) ≡ Some (x, length w) → Lexes rest xs
-      → Lexes (w ++ rest) (x ∷ xs)
-  word_front [] rest some dark here more = absurd (omega arith)
-  word_front (c ∷ w) rest some dark here more = front w rest dark here more
-
 -- ---- which kind of lexeme begins
 
 opened-other : (c : ℕ) (cs : List ℕ) → (c == 60) ≡ false → opened (c ∷ cs) ≡ None
@@ -278,10 +271,6 @@ module _ (rest : List ℕ) {xs : List Lexeme} (more : Lexes rest xs) where
   pub lexes_colon : Lexes (58 ∷ rest) (Sign sign.Colon ∷ xs)
   unfolding sign_at
   lexes_colon = one_sign 58 sign.Colon refl refl refl refl rest refl more
-
-  pub lexes_question : Lexes (63 ∷ rest) (Sign sign.Question ∷ xs)
-  unfolding sign_at
-  lexes_question = one_sign 63 sign.Question refl refl refl refl rest refl more
 
   pub lexes_caret : Lexes (94 ∷ rest) (Sign sign.Caret ∷ xs)
   unfolding sign_at

@@ -60,10 +60,6 @@ no_bracket xs h = not-true _ (and_parts (not (bracket_follows xs)) (not (point_f
 pub no_point : (xs : List Lexeme) → plain xs ≡ true → point_follows xs ≡ false
 no_point xs h = not-true _ (and_parts (not (bracket_follows xs)) (not (point_follows xs)) h).1
 
--- a sign that is neither `(` nor `.`
-abbrev pub is_plain_sign : s.Sign → Bool
-is_plain_sign x = not (is_open x) && not (is_dot x)
-
 -- The text is these lexemes, and they are these tokens.
 pub record Reads (w : List ℕ) (ls : List Lexeme) (ts : List Token) : Type 0 where
   pub lexemes : (rest : List ℕ) (xs : List Lexeme) → ends rest ≡ true → Lexes rest xs → Lexes (w ++ rest) (ls ++ xs)

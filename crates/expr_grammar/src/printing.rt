@@ -324,17 +324,20 @@ pub fn print(alloc: Global, tree: &Expr) -> Result<String, AllocError>
 #[cfg(test)]
 mod tests {
     use super::*;
+    use fc_base::Name;
     use std::test::Fail;
 
     #[test]
     fn prints_a_tree(rt: HostRuntime) -> Result<(), Fail> {
-        let flag = Expr {
-            node: Node::Flag(true),
+        let unit = Name::read(rt.alloc(), "mm")?;
+        let cubic = UnitPower { unit, exponent: 3 };
+        let base = Expr {
+            node: Node::Literal(Amount::of_raw(2_500_000_000)?, Some(cubic)),
         };
         let power = Expr {
-            node: Node::Power(Box::new(rt.alloc(), flag.negated(rt.alloc())?)?, -2),
+            node: Node::Power(Box::new(rt.alloc(), base)?, -2),
         };
-        assert_eq!(rt; print(rt.alloc(), &power)?.as_str(), "(-true)^-2");
+        assert_eq!(rt; print(rt.alloc(), &power)?.as_str(), "(2.5 mm^3)^-2");
         Ok(())
     }
 }
