@@ -30,21 +30,26 @@ IsIn-to_list : {A : Type 0} (o : Option A) (x : A) → o ≡ Some x → IsIn x (
 IsIn-to_list None x h = absurd (cc)
 IsIn-to_list (Some y) x h = inl (cc)
 
-module _ {O : Type 0} (d : Document) (o : Object) (e : Tree) (v w : Slot → O) (agree : AgreeOn (slots_of_tree d o e) v w) where
-  -- on the slot of a path of the expression
-  pub agreed-path : (r : Reference) (s : Slot) → IsIn r (references e) → slot_reached d o r ≡ Some s → v s ≡ w s
-  agreed-path r s here reached =
-      agree s
-      (IsIn-left (flat_map (λ r. option_to_list (slot_reached d o r)) (references e)) (flat_map (cells_reached d o) (references e)) s
-      (IsIn-flat_map (λ r. option_to_list (slot_reached d o r)) (references e) r s here (IsIn-to_list (slot_reached d o r) s reached)))
+module _ (d : Document) (o : Object) (e : Tree) where
+  -- the slot of a path of an expression, and the cells of an area of it, are slots of the expression
+  pub reached-in : (r : Reference) (s : Slot) → IsIn r (references e) → slot_reached d o r ≡ Some s → IsIn s (slots_of_tree d o e)
+  reached-in r s here reached =
+      IsIn-left (flat_map (λ r. option_to_list (slot_reached d o r)) (references e)) (flat_map (cells_reached d o) (references e)) s
+      (IsIn-flat_map (λ r. option_to_list (slot_reached d o r)) (references e) r s here (IsIn-to_list (slot_reached d o r) s reached))
 
-  -- and on the cells of an area of it
+  pub cells-in : (r : Reference) (s : Slot) → IsIn r (references e) → IsIn s (cells_reached d o r) → IsIn s (slots_of_tree d o e)
+  cells-in r s here i =
+      IsIn-right (flat_map (λ r. option_to_list (slot_reached d o r)) (references e)) (flat_map (cells_reached d o) (references e)) s
+      (IsIn-flat_map (cells_reached d o) (references e) r s here i)
+
+module _ {O : Type 0} (d : Document) (o : Object) (e : Tree) (v w : Slot → O) (agree : AgreeOn (slots_of_tree d o e) v w) where
+  -- so two maps agree on the slot of a path
+  pub agreed-path : (r : Reference) (s : Slot) → IsIn r (references e) → slot_reached d o r ≡ Some s → v s ≡ w s
+  agreed-path r s here reached = agree s (reached-in d o e r s here reached)
+
+  -- and on the cells of an area
   pub agreed-cells : (r : Reference) → IsIn r (references e) → map v (cells_reached d o r) ≡ map w (cells_reached d o r)
-  agreed-cells r here =
-      map-agreed v w (cells_reached d o r)
-      (λ s i. agree s
-      (IsIn-right (flat_map (λ r. option_to_list (slot_reached d o r)) (references e)) (flat_map (cells_reached d o) (references e)) s
-      (IsIn-flat_map (cells_reached d o) (references e) r s here i)))
+  agreed-cells r here = map-agreed v w (cells_reached d o r) (λ s i. agree s (cells-in d o e r s here i))
 
 -- the dependencies are those of the rule, in the slot's object
 pub deps-found : (d : Document) (s : Slot) → deps d s ≡ option_map_or (λ o. deps_by d o (rule_of d s)) (object_named d s.object) []

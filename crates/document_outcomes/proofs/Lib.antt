@@ -9,3 +9,10 @@ pub mod SearchLemmas
 pub mod FaultLemmas
 pub mod WorkedLemmas
 pub mod OrderLemmas
+pub mod GivenLemmas
+pub mod RowLemmas
+pub mod LookupLemmas
+pub mod InheritLemmas
+pub mod TargetLemmas
+pub mod TypedLemmas
+pub mod ValueLemmas

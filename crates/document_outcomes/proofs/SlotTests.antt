@@ -51,7 +51,7 @@ place_equal p q =
           (of_rows.1 (ap (λ (r : Place). r.fixed_row) e)),
     )
 
-name_equal : (m n : SlotName) → Decides (same_slot_name m n) (m ≡ n)
+pub name_equal : (m n : SlotName) → Decides (same_slot_name m n) (m ≡ n)
 name_equal (Plain a) (Plain b) = let d = bytes_decides a b in (λ h. ap Plain (d.0 h), λ h. d.1 (cc))
 name_equal (Component a k) (Component b l) =
     let texts = bytes_decides a b in

@@ -4,6 +4,7 @@ pub mod Limits
 pub mod Cycles
 pub mod Faults
 pub mod NoFault
+pub mod Typed
 pub mod Called
 pub mod WorkedParts
 pub mod WorkedNumbers

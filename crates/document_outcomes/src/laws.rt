@@ -12,6 +12,7 @@ ghost use Rattle.document_outcomes.specs.Faults.{IsValid};
 ghost use Rattle.document_outcomes.specs.Full.{Meanings, full, local};
 ghost use Rattle.document_outcomes.specs.NoFault.{HasNoFault};
 ghost use Rattle.document_outcomes.specs.Sorts.{local_sort, sort};
+ghost use Rattle.document_outcomes.specs.Typed.{NoSlotHasWrongOperands, OutcomesHaveSorts, SortsCanBeGiven};
 ghost use Rattle.document_outcomes.specs.WorkedFaults.{FirstFaultsWork};
 ghost use Rattle.document_outcomes.specs.WorkedLinks.{FeaturesWork, LinkFaultsWork, LinksWork, SheetWorks};
 ghost use Rattle.document_outcomes.specs.WorkedNumbers.{ChainWorks, FaultedWorks};
@@ -81,6 +82,16 @@ pub fn valid_documents_have_no_fault()
 pub fn a_valid_document_has_no_cycle()
     ensures by_test { (d : Document) → IsValid d → HasNoCycle d }
     ensures by_chains { (d : Document) → IsValid d → Acyclic (deps d) (slots d) }
+{}
+
+/// In a valid document each outcome that is a value has the sort of its slot, where features and
+/// placements give values of the sorts that they should, which they can. So in an expression of the
+/// document no operation meets operands of a kind or a unit that it does not want: whatever it gave
+/// on them, the outcome is the same.
+pub fn outcomes_have_sorts()
+    ensures of_sort { OutcomesHaveSorts }
+    ensures no_wrong_operands { NoSlotHasWrongOperands }
+    ensures can_be_met { SortsCanBeGiven }
 {}
 
 /// Two VarSets of Floats that are bound in a chain have their outcomes, and so have VarSets in which
