@@ -1,5 +1,5 @@
 -- Expressions worked out.
-use Rattle.std.specs.Prelude.{◌≡◌, ℕ, ◌*◌, ℤ, pos, negsuc, true, List, [], ◌∷◌, Option, None, Some, Ok, Err, codes}
+use Rattle.std.specs.Prelude.{◌≡◌, ℕ, ◌*◌, ℤ, pos, negsuc, true, List, [], ◌∷◌, None, Some, Ok, Err, codes}
 use Rattle.unit_signatures.specs.Units.{pure}
 use Rattle.property_types.specs.declared.prop_type.Sort.TheVariants as sort
 use Rattle.property_types.specs.declared.value.ValueFault.TheVariants.{Range, DivideByZero, EmptyAggregate}
@@ -7,14 +7,11 @@ use Rattle.property_types.specs.declared.value.Value.TheVariants as value
 use Rattle.property_types.specs.Types.{unit_of}
 use Rattle.property_types.specs.Values.{Outcome}
 use Rattle.fc_base.specs.Places.{Block}
-use Rattle.expr_grammar.specs.declared.expr.UnitPower.{UnitPower}
 use Rattle.expr_grammar.specs.declared.operators.BinaryOp.TheVariants.{Plus, Over}
 use Rattle.expr_grammar.specs.declared.operators.CompareOp.TheVariants.{Equal}
 use Rattle.expr_grammar.specs.declared.operators.AggregateOp.TheVariants.{Sum, Average, Count}
-use Rattle.expr_grammar.specs.Tree.{Tree, literal, flag, path, negate, binary, power, compare, conditional, aggregate, Arguments, no_more, tree, cells}
-use Rattle.object_paths.specs.declared.path.Path.{Path}
+use Rattle.expr_grammar.specs.Tree.{Tree, literal, flag, negate, binary, power, compare, conditional, aggregate, no_more, tree, cells}
 use Rattle.expr_eval.specs.declared.sort_cause.SortCause.TheVariants.{UnitMismatch, KindMismatch}
-use Rattle.expr_eval.specs.SortRows.{SortOutcome}
 use Rattle.expr_eval.specs.Sorts.{SortReading, sort_of}
 use Rattle.expr_eval.specs.Outcomes.{Reading, outcome_of}
 

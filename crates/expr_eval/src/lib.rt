@@ -8,6 +8,8 @@ mod env;
 mod evaluation;
 pub mod laws;
 mod numbers;
+#[cfg(test)]
+mod postfix;
 mod references;
 mod sort_cause;
 mod sort_rows;

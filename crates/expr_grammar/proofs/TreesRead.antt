@@ -17,7 +17,7 @@ use Rattle.expr_grammar.proofs.DescentComplete.{EndsSum, Ends, closing, ends-pri
 
 -- lists in another grouping
 
-grouped : (xs : List Token) (x : Token) (ys rest : List Token) → (xs ++ x ∷ ys) ++ rest ≡ xs ++ x ∷ (ys ++ rest)
+pub grouped : (xs : List Token) (x : Token) (ys rest : List Token) → (xs ++ x ∷ ys) ++ rest ≡ xs ++ x ∷ (ys ++ rest)
 grouped xs x ys rest = append_assoc xs (x ∷ ys) rest
 
 grouped_twice : (xs : List Token) (x : Token) (ys : List Token) (y : Token) (zs rest : List Token)
@@ -35,7 +35,7 @@ bracketed-read ts rest t u change e same =
     ap (λ (z : List Token). with_bracket (parsed expression z >>= λ a r. Some (change a, r))) (append_assoc ts (close ∷ []) rest)
     ∙ (ap (λ (z : Parsed Tree). with_bracket (z >>= λ a r. Some (change a, r))) e ∙ ap (λ (z : Tree). Some (z, rest)) same)
 
-sum-stops : (op : o.CompareOp) (rest : List Token) → operation_in_front sum (token.Sign (compare_sign op) ∷ rest) ≡ None
+pub sum-stops : (op : o.CompareOp) (rest : List Token) → operation_in_front sum (token.Sign (compare_sign op) ∷ rest) ≡ None
 sum-stops compare_op.Equal rest = refl
 sum-stops compare_op.NotEqual rest = refl
 sum-stops compare_op.Less rest = refl

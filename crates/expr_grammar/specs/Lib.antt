@@ -9,6 +9,8 @@ pub mod Numbered
 pub mod Signs
 pub mod Longest
 pub mod Lexemes
+pub mod NumeralParts
+pub mod Lexing
 pub mod Functions
 pub mod Kinds
 pub mod Limits
@@ -16,7 +18,14 @@ pub mod Misplaced
 pub mod PathTokens
 pub mod Grammar
 pub mod Printed
+pub mod TreeTokens
 pub mod Parse
+pub mod ReadBack
+pub mod Brackets
+pub mod PrintingLevels
 pub mod Examples
 pub mod SignNumbers
 pub mod Descent
+pub mod Joined
+pub mod Reading
+pub mod Renaming

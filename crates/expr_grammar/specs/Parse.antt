@@ -46,6 +46,23 @@ HasCause text cause.Lexical place = IsLexical text place
 HasCause text cause.TooLarge place = IsTooLarge text place
 HasCause text cause.Syntax place = IsSyntax text place
 
+-- lexemes within the limits are the tree, or none and the place is the one found by neighbours
+pub record HasNoTree (xs : List Placed) (end place : ℕ) : Type 0 where
+  pub no_tree : (t : Tree) → HasTree expression (tokens_of xs) t → ⊥
+  pub first : place ≡ misplaced (map (λ x. x.place) xs) (tokens_of xs) end
+
+-- the only cause that lexemes within the limits have
+abbrev pub HasSyntaxAlone : List Placed → ℕ → c.ExprCause → ℕ → Type 0
+HasSyntaxAlone xs end cause.Lexical place = ⊥
+HasSyntaxAlone xs end cause.TooLarge place = ⊥
+HasSyntaxAlone xs end cause.Syntax place = HasNoTree xs end place
+
+-- an answer on lexemes of a text of that length: their tree, or why they have none, or want of memory
+abbrev pub MeetsGrammar : List Placed → ℕ → Result Tree ParseFault → Type 0
+MeetsGrammar xs end (Ok t) = HasTree expression (tokens_of xs) t
+MeetsGrammar xs end (Err (fault.Expr f)) = HasSyntaxAlone xs end f.cause f.place
+MeetsGrammar xs end (Err (fault.Memory e)) = Unit {0}
+
 -- an answer of parsing: the tree of the text, or the first cause why it has none, or want of memory
 abbrev pub MeetsParse : List ℕ → Result Tree ParseFault → Type 0
 MeetsParse text (Ok t) = Parses text t

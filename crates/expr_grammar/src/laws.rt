@@ -1,6 +1,8 @@
 //! Laws of the definitions, each as the contract of a function with nothing to do.
+ghost use Rattle.expr_grammar.specs.Brackets.{PrintedFormHasTokens, BracketsAreNeeded};
 ghost use Rattle.expr_grammar.specs.Grammar.{HaveOneTree};
 ghost use Rattle.expr_grammar.specs.Numbered.{NumbersDontMatter};
+ghost use Rattle.expr_grammar.specs.ReadBack.{PrintedFormHasTree, PrintedFormIsRead, ParsedTreesAreSpelled};
 ghost use Rattle.expr_grammar.specs.References.{ReferencesAreCounted, ReferencesAreChanged};
 
 /// The references of a tree are as many as are counted, so their numbers begin at 0 and leave none
@@ -24,4 +26,25 @@ pub fn numbers_dont_matter()
 /// A list of tokens has one tree at most, at each level of the grammar.
 pub fn tokens_have_one_tree()
     ensures { HaveOneTree }
+{}
+
+/// The printed form of a tree that a text can spell has lexemes, and these have that tree; so
+/// within the limits on tokens and brackets it is read as the tree.
+pub fn printed_form_is_read()
+    ensures has_tree { PrintedFormHasTree }
+    ensures is_read { PrintedFormIsRead }
+{}
+
+/// The tree of a text can be spelled: its names are names, its numerals amounts that are not
+/// negative, its units those of the table, its exponents of one or two digits.
+pub fn parsed_trees_are_spelled()
+    ensures { ParsedTreesAreSpelled }
+{}
+
+/// Brackets stand exactly where they are needed: the printed form of a tree is its tokens, and the
+/// tokens of a part have its tree at a level of the grammar exactly where the part is printed there
+/// without brackets. A literal with a unit under `^` is in brackets besides.
+pub fn brackets_are_needed()
+    ensures has_tokens { PrintedFormHasTokens }
+    ensures needed { BracketsAreNeeded }
 {}

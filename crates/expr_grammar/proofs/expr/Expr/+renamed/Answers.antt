@@ -1,0 +1,44 @@
+use Rattle.std.proofs.Common.{◌≡◌, ◌∙◌, ◌++◌, ◌∷◌, [], arith}
+use Rattle.expr_grammar.specs.declared.expr.Argument.TheVariants as argument
+use Rattle.expr_grammar.proofs.RenamingLemmas.{next_tree, next_area, next_tree_count, next_area_count, all_renamed}
+use Rattle.expr_grammar.proofs.expr.Expr.+renamed.Goals as goal
+use Rattle.expr_grammar.proofs.expr.Expr.+renamed.Goals.{in-Tree+in_ok-renamed-in-Tree+in_ok-push-in-Tree, in-Cells+in_ok-push-in-Cells}
+
+pub loop-argument-preserved : goal.loop-argument-preserved
+loop-argument-preserved t c =
+    let pairs = c.args.listed.now.pairs.now in
+    let items = c.deref-argument-items.result.now in
+    let i = c.loop-argument.argument-index in
+    let item = c.argument-item.result in
+    elim c.match-argument.branch [
+      | in-Tree+in_ok-renamed-in-Tree+in_ok-push-in-Tree w ↦
+          let number = w.number-is ∙ w.in_ok-renamed-in-Tree.ensures.number in
+          let pushed : c.match-argument.copies.items ≡ c.loop-argument.copies.items ++ argument.Tree w.in_ok-renamed-in-Tree.field-0 ∷ [] =
+          rw (w.copies-is, w.in_ok-push-in-Tree.ensures.items) in
+          record {
+            arguments = c.loop-argument.invariant.arguments
+                ∙ next_tree pairs items c.loop-argument.copies.items c.match-argument.copies.items i c.loop-argument.number c.match-argument.number
+                item _ _ c.loop-argument-test.true c.argument-item.is w.in-Tree.is w.in_ok-renamed-in-Tree.ensures.tree number pushed;
+            counted = next_tree_count pairs items i c.loop-argument.number c.match-argument.number
+                item _ c.loop-argument-test.true c.argument-item.is w.in-Tree.is number ∙ c.loop-argument.invariant.counted;
+            low = omega (arith, number);
+          }
+      | in-Cells+in_ok-push-in-Cells w ↦
+          let number = w.number-is ∙ w.area.ensures.number in
+          let pushed : c.match-argument.copies.items ≡ c.loop-argument.copies.items ++ argument.Cells w.area.result ∷ [] =
+          rw (w.copies-is, w.in_ok-push-in-Cells.ensures.items) in
+          record {
+            arguments = c.loop-argument.invariant.arguments
+                ∙ next_area pairs items c.loop-argument.copies.items c.match-argument.copies.items i c.loop-argument.number c.match-argument.number
+                item _ _ c.loop-argument-test.true c.argument-item.is w.in-Cells.is w.area.ensures.area number pushed;
+            counted = next_area_count pairs items i c.loop-argument.number c.match-argument.number
+                item _ c.loop-argument-test.true c.argument-item.is w.in-Cells.is number ∙ c.loop-argument.invariant.counted;
+            low = omega (arith, number);
+          }
+    ]
+
+pub returns-after-loop-argument-clause-tree : goal.returns-after-loop-argument-clause-tree
+returns-after-loop-argument-clause-tree t c =
+    let all = all_renamed c.args.listed.now.pairs.now c.deref-argument-items.result.now c.loop-argument.copies.items c.loop-argument.argument-index
+    c.args.number.now c.loop-argument.number c.loop-argument-test.false c.loop-argument.invariant.arguments in
+    rw (c.aggregate.ensures, ← c.self.view_is, c.in-Aggregate.is, all, c.deref-argument-items.ensures.value)

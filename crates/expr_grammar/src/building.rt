@@ -1,0 +1,108 @@
+ghost use Rattle.std.specs.Prelude.{◌≡◌, IfOk};
+ghost use Rattle.expr_grammar.specs.Levels.{arguments_of};
+ghost use Rattle.expr_grammar.specs.Tree as t;
+
+use crate::expr::{Argument, Expr, Node};
+use crate::operators::{AggregateOp, BinaryOp, CompareOp, FunctionOp};
+use object_paths::Path;
+use std::alloc::{AllocError, Global};
+
+impl Expr {
+    /// The slot of the path.
+    pub(crate) fn path(path: Path) -> Expr
+        ensures { result ≡ t.path path }
+    {
+        Expr {
+            node: Node::Path(path),
+        }
+    }
+
+    /// The operation on both expressions.
+    pub(crate) fn binary(
+        alloc: Global,
+        op: BinaryOp,
+        left: Expr,
+        right: Expr,
+    ) -> Result<Expr, AllocError>
+        ensures { IfOk result (λ e. e ≡ t.binary op left right) }
+    {
+        let left = Box::new(alloc, left)?;
+        let right = Box::new(alloc, right)?;
+        Ok(Expr {
+            node: Node::Binary(op, left, right),
+        })
+    }
+
+    /// The power of the base.
+    pub(crate) fn power(alloc: Global, base: Expr, exponent: i8) -> Result<Expr, AllocError>
+        ensures { IfOk result (λ e. e ≡ t.power base exponent) }
+    {
+        let base = Box::new(alloc, base)?;
+        Ok(Expr {
+            node: Node::Power(base, exponent),
+        })
+    }
+
+    /// The comparison of both expressions.
+    pub(crate) fn compare(
+        alloc: Global,
+        op: CompareOp,
+        left: Expr,
+        right: Expr,
+    ) -> Result<Expr, AllocError>
+        ensures { IfOk result (λ e. e ≡ t.compare op left right) }
+    {
+        let left = Box::new(alloc, left)?;
+        let right = Box::new(alloc, right)?;
+        Ok(Expr {
+            node: Node::Compare(op, left, right),
+        })
+    }
+
+    /// The first arm where the condition holds, else the second.
+    pub(crate) fn conditional(
+        alloc: Global,
+        condition: Expr,
+        first: Expr,
+        second: Expr,
+    ) -> Result<Expr, AllocError>
+        ensures { IfOk result (λ e. e ≡ t.conditional condition first second) }
+    {
+        let condition = Box::new(alloc, condition)?;
+        let first = Box::new(alloc, first)?;
+        let second = Box::new(alloc, second)?;
+        Ok(Expr {
+            node: Node::Conditional(condition, first, second),
+        })
+    }
+
+    /// The function of the operand.
+    pub(crate) fn function(alloc: Global, op: FunctionOp, operand: Expr) -> Result<Expr, AllocError>
+        ensures { IfOk result (λ e. e ≡ t.function op operand) }
+    {
+        let operand = Box::new(alloc, operand)?;
+        Ok(Expr {
+            node: Node::Function(op, operand),
+        })
+    }
+
+    /// The remainder of the division.
+    pub(crate) fn modulo(alloc: Global, left: Expr, right: Expr) -> Result<Expr, AllocError>
+        ensures { IfOk result (λ e. e ≡ t.modulo left right) }
+    {
+        let left = Box::new(alloc, left)?;
+        let right = Box::new(alloc, right)?;
+        Ok(Expr {
+            node: Node::Modulo(left, right),
+        })
+    }
+
+    /// The function of the arguments.
+    pub(crate) fn aggregate(op: AggregateOp, all: Vec<Argument>) -> Expr
+        ensures { result ≡ t.aggregate op (arguments_of all.items) }
+    {
+        Expr {
+            node: Node::Aggregate(op, all),
+        }
+    }
+}
