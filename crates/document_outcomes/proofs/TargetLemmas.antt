@@ -170,38 +170,76 @@ module _ (d : Document) where
   pub object-found : (name : List ℕ) (o : Object) → object_named d name ≡ Some o → o.name ≡ name
   object-found name o h = (bytes_decides o.name name).0 (find-passes (λ (q : Object). same_text q.name name) d.objects o h)
 
-  -- a slot that the document has, of the type that is found in its object's rows
+  -- a slot by the name of its object and of a row of it is there
+  pub existing-found :
+      (o : Object) (object : List ℕ) (name : SlotName) (type : PropType) → object_named d object ≡ Some o
+      → Found (rows d o) name type → existing d (record { object = object; name = name }) ≡ Some (record { object = object; name = name })
+  existing-found o object name type found f =
+      let there : existing d (record { object = object; name = name }) ≡ Some (slot_of o (f.row).name) = rw (found, f.here) refl in
+      there ∙ (λ i. Some (record { object = object-found object o found i; name = row_in-name (rows d o) name f.row f.here i }))
+
+  -- and it has the row's type
   pub existing-type :
       (o : Object) (object : List ℕ) (name : SlotName) (type : PropType) (q : Slot) → object_named d object ≡ Some o
       → Found (rows d o) name type → existing d (record { object = object; name = name }) ≡ Some q → type_of d q ≡ Some type
   existing-type o object name type q found f exists =
-      let there : existing d (record { object = object; name = name }) ≡ Some (slot_of o (f.row).name) = rw (found, f.here) refl in
-      let same : q ≡ slot_of o (f.row).name = cc in
+      let there = existing-found o object name type found f in
+      let same : q ≡ record { object = object; name = name } = cc in
       let base : type_of d (record { object = object; name = name }) ≡ Some type = rw (found, f.here) f.typed in
-      let asked : slot_of o (f.row).name ≡ record { object = object; name = name } =
-      λ i. record { object = object-found object o found i; name = row_in-name (rows d o) name f.row f.here i } in
-      subst (λ (x : Slot). type_of d x ≡ Some type) (sym (same ∙ asked)) base
+      subst (λ (x : Slot). type_of d x ≡ Some type) (sym same) base
 
-  -- the slot that an inherited row of a link leads to has the row's type
-  pub inherited-type :
-      (o : Object) (name : SlotName) (r : Row) (t q : Slot) → o.kind ≡ Link → row_in (rows_by d o Link) name ≡ Some r
-      → r.rule ≡ inherit t → existing d t ≡ Some q → type_of d q ≡ r.prop
-  inherited-type o name r t q link here rule exists =
+  -- the slot that an inherited row of a link leads to
+  record Source (r : Row) (t : Slot) : Type 0 where
+    next : Object
+    object : List ℕ
+    name : SlotName
+    type : PropType
+    named : object_named d object ≡ Some next
+    found : Found (rows d next) name type
+    asked : t ≡ record { object = object; name = name }
+    typed : r.prop ≡ Some type
+
+  source : (o : Object) (name : SlotName) (r : Row) (t : Slot) → o.kind ≡ Link → row_in (rows_by d o Link) name ≡ Some r → r.rule ≡ inherit t → Source r t
+  source o name r t link here rule =
       let mirrored = mirrored-row d o name r t rule here in
       let next = next_of d o mirrored.e link mirrored.end in
-      let found =
-      in_next next.next mirrored.e (next.next).kind next.left name mirrored.slot refl next.fewer next.end mirrored.outside mirrored.found in
       let rule_of_row : r.rule ≡ (mirrored_row o mirrored.slot).rule = ap (λ (x : Row). x.rule) mirrored.row in
       let t_is : t ≡ record { object = unwrap_or o.target []; name = (mirrored.slot).0 } =
       elim (mirrored-rule o mirrored.slot (content_at (mirrored.slot).0 o.overrides)) [
         | inl w ↦
             let bad : IsWritten (inherit t) = subst (λ (x : Rule). IsWritten x) (sym rule_of_row ∙ rule) w in
             absurd bad
-        | inr e ↦ let same : inherit t ≡ inherit (record { object = unwrap_or o.target []; name = (mirrored.slot).0 }) = sym rule ∙ rule_of_row ∙ e in cc
+        | inr e ↦
+            let same : inherit t ≡ inherit (record { object = unwrap_or o.target []; name = (mirrored.slot).0 }) = sym rule ∙ rule_of_row ∙ e in
+            cc
       ] in
-      let named : (mirrored.slot).0 ≡ name = named-is (mirrored_slots mirrored.e) name mirrored.slot mirrored.found in
-      let asked : t ≡ record { object = next.name; name = name } =
-      t_is ∙ (λ i. record { object = unwrap_or (next.target i) []; name = named i }) in
-      existing-type next.next next.name name (mirrored.slot).1 q next.found found
-      (subst (λ (x : Slot). existing d x ≡ Some q) asked exists)
-      ∙ sym (ap (λ (x : Row). x.prop) mirrored.row)
+      let one_name : (mirrored.slot).0 ≡ name = named-is (mirrored_slots mirrored.e) name mirrored.slot mirrored.found in
+      record {
+        next = next.next;
+        object = next.name;
+        name = name;
+        type = (mirrored.slot).1;
+        named = next.found;
+        found =
+            in_next next.next mirrored.e (next.next).kind next.left name mirrored.slot refl next.fewer next.end mirrored.outside mirrored.found;
+        asked = t_is ∙ (λ i. record { object = unwrap_or (next.target i) []; name = one_name i });
+        typed = ap (λ (x : Row). x.prop) mirrored.row;
+      }
+
+  -- it is there
+  pub inherited-existing :
+      (o : Object) (name : SlotName) (r : Row) (t : Slot) → o.kind ≡ Link → row_in (rows_by d o Link) name ≡ Some r
+      → r.rule ≡ inherit t → existing d t ≡ Some t
+  inherited-existing o name r t link here rule =
+      let from = source o name r t link here rule in
+      subst (λ (x : Slot). existing d x ≡ Some x) (sym from.asked) (existing-found from.next from.object from.name from.type from.named from.found)
+
+  -- and has the row's type
+  pub inherited-type :
+      (o : Object) (name : SlotName) (r : Row) (t q : Slot) → o.kind ≡ Link → row_in (rows_by d o Link) name ≡ Some r
+      → r.rule ≡ inherit t → existing d t ≡ Some q → type_of d q ≡ r.prop
+  inherited-type o name r t q link here rule exists =
+      let from = source o name r t link here rule in
+      existing-type from.next from.object from.name from.type q from.named from.found
+      (subst (λ (x : Slot). existing d x ≡ Some q) from.asked exists)
+      ∙ sym from.typed

@@ -2,7 +2,7 @@
 use Rattle.std.proofs.Common.{◌≡◌, inl, inr, ℕ, zero, suc, true, List, [], ◌∷◌, ◌++◌, map, length, Some, None, Ok, refl, sym, ◌∙◌, ap, subst, arith, codes}
 use Rattle.std.specs.Prelude.{Option, Result, Err, slice_get}
 use Rattle.std.specs.List.{filter_map}
-use Rattle.std.specs.Option.{option_and_then, option_map_or}
+use Rattle.std.specs.Option.{option_map, option_and_then, option_map_or}
 use Rattle.fc_base.specs.Graph.{IsIn, full_at}
 use Rattle.object_paths.specs.declared.slot_name.Component as c
 use Rattle.object_paths.specs.declared.slot_name.Component.TheVariants.{X, Y, Z, Turn}
@@ -45,7 +45,7 @@ use Rattle.document_outcomes.proofs.GivenLemmas.{bound-of_sort, own-of_sort, rea
 use Rattle.document_outcomes.proofs.InheritLemmas.{no_inherit-output}
 use Rattle.document_outcomes.proofs.LookupLemmas.{Found}
 use Rattle.document_outcomes.proofs.RowLemmas.{IsWritten, IsWorkedOut, row-kind, rows_with-written, dynamic-written, cells-written}
-use Rattle.document_outcomes.proofs.TargetLemmas.{object-found, existing-type, inherited-type}
+use Rattle.document_outcomes.proofs.TargetLemmas.{inherited-existing, object-found, existing-type, inherited-type}
 use Rattle.document_outcomes.proofs.TypedLemmas.{HasType, of_slot_type, local_sort-typed, four-typed, placement-found}
 
 -- what is written does not inherit
@@ -70,6 +70,25 @@ inherits-link d o r t (Feature plan) h i =
       | inr j ↦ absurd (no_inherit-output d plan r t j h)
     ]
 inherits-link d o r t (Foreign type) h i = absurd i
+
+-- a slot that is inherited depends on the target's slot alone
+pub inherited-dependency : (d : Document) (s t : Slot) → rule_of d s ≡ Some (inherit t) → deps d s ≡ t ∷ []
+inherited-dependency d s t h = of_found (object_named d s.object) refl
+  where
+    of_found : (found : Option Object) → object_named d s.object ≡ found → deps d s ≡ t ∷ []
+    of_found None found =
+        let e : rule_of d s ≡ None = λ i. option_map (λ (r : Row). r.rule) (option_and_then (λ (q : Object). row_in (rows d q) s.name) (found i)) in
+        absurd (let f : None ≡ Some (inherit t) = sym e ∙ h in cc)
+    of_found (Some o) found =
+        let row = map_some (λ (r : Row). r.rule) (row_of d s) (inherit t) h in
+        let same : row_of d s ≡ row_in (rows d o) s.name = rw found refl in
+        let at : row_in (rows d o) s.name ≡ Some row.0 = sym same ∙ row.1 in
+        let rule : (row.0).rule ≡ inherit t = sym row.2 in
+        let link : o.kind ≡ Link =
+        inherits-link d o row.0 t o.kind rule (from_find (λ (q : Row). same_slot_name q.name s.name) (rows d o) row.0 at) in
+        let at_link : row_in (rows_by d o Link) s.name ≡ Some row.0 = subst (λ (k : ObjectKind). row_in (rows_by d o k) s.name ≡ Some row.0) link at in
+        let exists : existing d t ≡ Some t = inherited-existing d o s.name row.0 t link at_link rule in
+        deps-found d s ∙ (λ i. option_map_or (λ (q : Object). deps_by d q (h i)) (found i) []) ∙ rw exists refl
 
 module _ (m : Meanings) (sound : GivesSorts m) (d : Document) (none : HasNoFault d) where
   -- the sort of a typed slot is the type's

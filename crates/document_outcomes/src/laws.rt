@@ -1,12 +1,12 @@
 //! Laws of the definitions, each as the contract of a function with nothing to do.
-ghost use Rattle.std.specs.Prelude.{◌≡◌, ◌↔◌, IsTrue, List};
+ghost use Rattle.std.specs.Prelude.{◌≡◌, ◌↔◌, IsTrue, List, [], ◌∷◌, Some};
 ghost use Rattle.fc_base.specs.Graph.{Acyclic, EvaluatesAll, IsFixpoint, IsIn, Reaches, ReadsOnlyDeps};
 ghost use Rattle.object_paths.specs.Slots.{Slot};
 ghost use Rattle.property_types.specs.Values.{Outcome};
 ghost use Rattle.expr_eval.specs.SortRows.{SortOutcome};
 ghost use Rattle.document_model.specs.Dependencies.{deps};
 ghost use Rattle.document_model.specs.Document.{Document, Object};
-ghost use Rattle.document_model.specs.Slots.{slots};
+ghost use Rattle.document_model.specs.Slots.{inherit, rule_of, slots};
 ghost use Rattle.document_outcomes.specs.Cycles.{HasNoCycle, OrdersSlots, is_cyclic, leads_back, targets};
 ghost use Rattle.document_outcomes.specs.Faults.{IsValid};
 ghost use Rattle.document_outcomes.specs.Full.{Meanings, full, local};
@@ -16,6 +16,12 @@ ghost use Rattle.document_outcomes.specs.Typed.{NoSlotHasWrongOperands, Outcomes
 ghost use Rattle.document_outcomes.specs.WorkedFaults.{FirstFaultsWork};
 ghost use Rattle.document_outcomes.specs.WorkedLinks.{FeaturesWork, LinkFaultsWork, LinksWork, SheetWorks};
 ghost use Rattle.document_outcomes.specs.WorkedNumbers.{ChainWorks, FaultedWorks};
+
+/// A slot that a link inherits depends on the target's slot of its name, which is there, and on
+/// nothing else; in every document.
+pub fn inherited_slots_have_one_dependency()
+    ensures { (d : Document) (s t : Slot) → rule_of d s ≡ Some (inherit t) → deps d s ≡ t ∷ [] }
+{}
 
 /// The outcome of a slot hangs on the outcomes of the slots that it depends on, and on nothing else.
 pub fn outcomes_read_dependencies_alone()
