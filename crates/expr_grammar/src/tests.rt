@@ -213,15 +213,23 @@ fn finds_the_first_wrong_token_of_rows_from_outside(rt: HostRuntime) {
         rt.alloc(),
         ExprCause::Syntax,
         &[
+            ("24,", 3),
+            ("-.c^1-", 6),
+            ("1eé3 ft", 1),
+            ("<<<>> kg", 6),
             ("0.5 m ? 1", 9),
-            ("floor(?12.75)", 6),
+            ("/00012>m.b", 0),
             ("(7*mm  ft)*0", 7),
             ("floor(count:(.s*0))", 19),
-            ("sum(max(Vars.p))^-1", 8),
-            ("10000000000000000000^2.5", 24),
+            ("10000000000000000000 n", 21),
+            ("B(ox.true + Box.Height  ", 0),
             ("1*(1 mm^mm2)==(thou-(2 km))^2", 29),
+            ("0.5*(0.000000001 thou+(1*(1e3 d)))", 30),
+            ("(true ? 3 mm : dm/.24) - ((0 um)/3)", 35),
+            ("abs(mod(0.001 mm % (0.001 nm);+2.5 thou))", 30),
             ("(true^ ? 360 deg+(360*deg) < 7 deg : true)", 42),
-            ("1e9 cm - (1 cm)+(1e9 m) % (1000000 in) 5", 39),
+            ("sum((3 + 1e9) /, (10000000000000000000*x1))", 15),
+            ("(average(9999999999999999999*mm)) / 1e3+(0 cm) ? 1", 50),
         ],
     );
 }
@@ -242,6 +250,9 @@ fn finds_where_no_token_begins(rt: HostRuntime) -> Result<(), Fail> {
             ("A$0", 1),
             ("10000000000000000001", 0),
             ("1 + * #", 6),
+            ("<<<>", 0),
+            ("sum(2.5 cm;thou;100$0000 m)", 19),
+            ("sum=(360 mm^2) < 10000000000000000000*mm^2", 3),
         ],
     );
     let brackets = repeated(rt.alloc(), "(", 33, "#")?;
