@@ -283,18 +283,16 @@ fn counts_tokens_and_brackets(rt: HostRuntime) -> Result<(), Fail> {
 fn reads_deep_trees(rt: HostRuntime) -> Result<(), Fail> {
     let minuses = repeated(rt.alloc(), "-", 511, "1")?;
     let choices = repeated(rt.alloc(), "1 ? 1 : ", 127, "1")?;
-    let mut brackets = repeated(rt.alloc(), "1 - (", 32, "1")?;
+    let signs = repeated(rt.alloc(), "1 + ", 255, "1")?;
+    let mut brackets = repeated(rt.alloc(), "1 - (", 32, "1 - 2")?;
     for _ in 0..32 {
         brackets.push_str(")")?;
     }
-    let signs = repeated(rt.alloc(), "1 + ", 255, "1")?;
     let rows = [
         (minuses.as_str(), minuses.as_str()),
         (choices.as_str(), choices.as_str()),
         (signs.as_str(), signs.as_str()),
+        (brackets.as_str(), brackets.as_str()),
     ];
-    assert_printed(&rt, rt.alloc(), &rows)?;
-    let tree = parse(rt.alloc(), brackets.as_str())?;
-    assert_eq!(rt; print(rt.alloc(), &tree)?.as_str().len(), brackets.len());
-    Ok(())
+    assert_printed(&rt, rt.alloc(), &rows)
 }
