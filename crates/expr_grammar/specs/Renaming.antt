@@ -1,6 +1,6 @@
 -- Trees with some of their references replaced, by their numbers.
 use Rattle.std.specs.Prelude.{ℕ, ◌+◌, max, ◌==◌, nat_eq, if◌then◌else◌, List, [], ◌∷◌, map, slice_get, Option, Some, None}
-use Rattle.std.specs.List.{All, IsDistinct}
+use Rattle.std.specs.List.{AllByRecursion, IsDistinct}
 use Rattle.fc_base.specs.Places.{Block}
 use Rattle.object_paths.specs.declared.path.Path.{Path}
 use Rattle.expr_grammar.specs.declared.renaming.NewReference.{NewReference}
@@ -46,7 +46,7 @@ CanReplace (Some (to_area old)) (ToArea new) = Unit {0}
 
 -- each number is that of a reference of the tree and stands once, and each reference keeps its kind
 pub record IsRenamingOf (pairs : List (ℕ × NewReference)) (t : Tree) : Type 0 where
-  pub kinds : All (λ pair. CanReplace (slice_get (references t) pair.0) pair.1) pairs
+  pub kinds : AllByRecursion (λ pair. CanReplace (slice_get (references t) pair.0) pair.1) pairs
   pub once : IsDistinct nat_eq (map (λ pair. pair.0) pairs)
 
 -- one more than the greatest of the numbers
