@@ -3,6 +3,7 @@
 use crate::fault::{ExprCause, ExprFault, ParseFault};
 use crate::parsing::parse;
 use crate::printing::print;
+use crate::renaming::{Renaming, map_paths};
 use std::alloc::{AllocError, Global};
 use std::process::Abort;
 use std::test::Fail;
@@ -295,4 +296,15 @@ fn reads_deep_trees(rt: HostRuntime) -> Result<(), Fail> {
         (brackets.as_str(), brackets.as_str()),
     ];
     assert_printed(&rt, rt.alloc(), &rows)
+}
+
+#[test]
+fn replaces_no_reference_that_is_not_listed(rt: HostRuntime) -> Result<(), Fail> {
+    let tree = parse(rt.alloc(), "a + sum(b; A1:B2)")?;
+    let renaming = Renaming {
+        pairs: Vec::new(rt.alloc()),
+    };
+    let same = map_paths(rt.alloc(), &tree, &renaming)?;
+    assert_eq!(rt; print(rt.alloc(), &same)?.as_str(), "a + sum(b; A1:B2)");
+    Ok(())
 }
