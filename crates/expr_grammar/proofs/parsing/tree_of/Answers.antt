@@ -1,4 +1,4 @@
-use Rattle.std.proofs.Common.{◌≡◌, ℕ, List, map, subst, ap, ◌∙◌, sym, rules, None, arith, Err}
+use Rattle.std.proofs.Common.{◌≡◌, ℕ, List, map, subst, ap, ◌∙◌, sym, None, arith, Err}
 use Rattle.std.proofs.lemmas.Grind.{common_steps}
 use Rattle.expr_grammar.specs.Descent.{of_all, parsed}
 use Rattle.expr_grammar.specs.Grammar.{HasTree, expression}
@@ -8,7 +8,6 @@ use Rattle.expr_grammar.specs.Parse.{HasNoTree, MeetsGrammar}
 use Rattle.expr_grammar.specs.declared.fault.ParseFault.{ParseFault}
 use Rattle.expr_grammar.specs.declared.token.Token.{Token}
 use Rattle.expr_grammar.specs.declared.token.Placed.{Placed}
-use Rattle.expr_grammar.specs.Tree.{Tree}
 use Rattle.expr_grammar.proofs.OneTree.{of_all-sound, of_all-none}
 use Rattle.expr_grammar.proofs.parsing.tree_of.Goals as goal
 
