@@ -5,6 +5,7 @@ pub mod TypedSlots
 pub mod Slots
 pub mod Resolution
 pub mod Dependencies
+pub mod Counts
 pub mod Contents
 pub mod WellFormed
 pub mod Examples

@@ -1,19 +1,13 @@
 -- How large a document may be.
-use Rattle.std.specs.Prelude.{ℕ, ◌+◌, Bool, false, not, ◌||◌, nat_lt, List, ◌++◌, map, length, filter, sum_by, Option, Some, None, is_some, Result, Ok, Err}
-use Rattle.std.specs.List.{list_any, filter_map, flat_map}
-use Rattle.fc_base.specs.Places.{Place}
-use Rattle.object_paths.specs.declared.slot_name.SlotName.{SlotName}
+use Rattle.std.specs.Prelude.{ℕ, Bool, false, ◌||◌, nat_lt, List, length, is_some, Result, Ok, Err}
+use Rattle.std.specs.List.{list_any}
 use Rattle.expr_grammar.specs.declared.token.Placed.{Placed}
 use Rattle.expr_grammar.specs.Lexemes.{lexed}
 use Rattle.expr_grammar.specs.Limits.{excess}
-use Rattle.expr_grammar.specs.Nodes.{node_count}
 use Rattle.expr_grammar.specs.Printed.{printed}
 use Rattle.expr_grammar.specs.Tree.{Tree}
-use Rattle.document_model.specs.declared.content.Content.{Content}
-use Rattle.document_model.specs.declared.content.Content.TheVariants.{Own, Bound}
-use Rattle.document_model.specs.Document.{Document, Object, Property, Cell}
-use Rattle.document_model.specs.Slots.{slots}
-use Rattle.document_model.specs.Dependencies.{deps}
+use Rattle.document_model.specs.Counts.{expressions, slots_and_empty_cells, nodes_of_document, dependencies_of_document}
+use Rattle.document_model.specs.Document.{Document}
 
 abbrev pub most_objects : ℕ
 most_objects = 4096
@@ -26,37 +20,6 @@ most_nodes = 262144
 
 abbrev pub most_dependencies : ℕ
 most_dependencies = 4194304
-
--- all contents of an object: of inputs, dynamic properties, cells and overrides
-abbrev pub contents : Object → List Content
-contents o =
-    map (λ (e : SlotName × Content). e.1) o.inputs ++ flat_map (λ (p : Property). p.contents) o.dynamics
-    ++ filter_map (λ (e : Place × Cell). e.1.content) o.cells ++ map (λ (e : SlotName × Content). e.1) o.overrides
-
--- the expression to which a slot is bound
-abbrev pub tree_of_content : Content → Option Tree
-tree_of_content (Own v) = None
-tree_of_content (Bound e) = Some e
-
--- all expressions of a document
-abbrev pub expressions : Document → List Tree
-expressions d = flat_map (λ o. filter_map tree_of_content (contents o)) d.objects
-
--- the kept cells of an object that are not filled
-abbrev pub empty_cells : Object → List (Place × Cell)
-empty_cells o = filter (λ (e : Place × Cell). not (is_some e.1.content)) o.cells
-
--- the slots of a document and its kept cells that are not filled
-abbrev pub slots_and_empty_cells : Document → ℕ
-slots_and_empty_cells d = length (slots d) + sum_by (λ o. length (empty_cells o)) d.objects
-
--- the nodes of all expressions of a document
-abbrev pub nodes_of_document : Document → ℕ
-nodes_of_document d = sum_by node_count (expressions d)
-
--- the dependencies of all slots of a document
-abbrev pub dependencies_of_document : Document → ℕ
-dependencies_of_document d = sum_by (λ s. length (deps d s)) (slots d)
 
 -- lexemes with one token too many, or one bracket open too many
 abbrev pub are_too_many : Result (List Placed) ℕ → Bool
