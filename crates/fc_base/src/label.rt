@@ -1,12 +1,16 @@
 ghost use Rattle.std.specs.Prelude.{◌≡◌, ◌↔◌, false, nat_eq, Some, refl, IsTrue, IfOk, IsErrOf};
+ghost use Rattle.std.proofs.Common.{rules};
 ghost use Rattle.std.specs.Cmp.{partial_equiv_from_equiv};
 ghost use Rattle.std.specs.Cmp.Lexicographic.{slice_cmp, pointwise, nat_list_eq_equiv, nat_list_cmp_total, texts_po, texts_ties};
+ghost use Rattle.std.specs.Cmp.Rules.{hashing};
+ghost use Rattle.std.specs.Hash as fed;
 ghost use Rattle.std.specs.Ordering.{nat_cmp};
 ghost use Rattle.std.specs.List.{list_any};
 ghost use Rattle.fc_base.specs.Texts.{has_closing_mark, ends_in_mark, is_control, is_label};
 
 use std::alloc::{AllocError, Global};
 use std::cmp::Ordering;
+use std::hash::{Hash, Hasher};
 use std::marker::Model;
 use thiserror::Error;
 
@@ -118,6 +122,16 @@ impl Eq for Label {
     ghost laws = { nat_list_eq_equiv };
 }
 
+impl Hash for Label {
+    ghost hash_input = { fed.str };
+
+    ghost respects_eq = { Prim.search (hashing, rules) };
+
+    fn hash<H: Hasher>(&self, state: &mut H) {
+        self.as_str().hash(state);
+    }
+}
+
 impl PartialOrd for Label {
     ghost partial_cmp = { λ a b. Some (slice_cmp nat_cmp a b) };
 
@@ -145,6 +159,7 @@ impl Ord for Label {
 #[cfg(test)]
 mod tests {
     use super::*;
+    use std::collections::HashMap;
     use std::test::Fail;
 
     #[test]
@@ -160,6 +175,18 @@ mod tests {
                 "{text}"
             );
         }
+        Ok(())
+    }
+
+    #[test]
+    fn is_looked_up_by_an_equal_label(rt: HostRuntime) -> Result<(), Fail> {
+        let label = Label::read(rt.alloc(), "My box")?;
+        let same = label.copy(rt.alloc())?;
+        let other = Label::read(rt.alloc(), "my box")?;
+        let mut numbers = HashMap::new(rt.alloc());
+        numbers.insert(label, 7u32)?;
+        assert_eq!(rt; numbers.get(&same).copied(), Some(7));
+        assert_eq!(rt; numbers.get(&other).copied(), None);
         Ok(())
     }
 

@@ -1,6 +1,9 @@
 ghost use Rattle.std.specs.Prelude.{◌≡◌, ◌↔◌, ◌||◌, ◌==◌, ◌<◌, length, false, nat_eq, Some, refl, IsTrue, IfOk, IsErrOf};
+ghost use Rattle.std.proofs.Common.{rules};
 ghost use Rattle.std.specs.Cmp.{partial_equiv_from_equiv};
 ghost use Rattle.std.specs.Cmp.Lexicographic.{slice_cmp, pointwise, nat_list_eq_equiv, nat_list_cmp_total, texts_po, texts_ties};
+ghost use Rattle.std.specs.Cmp.Rules.{hashing};
+ghost use Rattle.std.specs.Hash as fed;
 ghost use Rattle.std.specs.Ordering.{nat_cmp};
 ghost use Rattle.std.specs.List.{list_all, AllPass};
 ghost use Rattle.std.specs.Str.{chars};
@@ -9,6 +12,7 @@ ghost use Rattle.fc_base.specs.Texts.{begins_name, spells_name, is_name, is_name
 
 use std::alloc::{AllocError, Global};
 use std::cmp::Ordering;
+use std::hash::{Hash, Hasher};
 use std::marker::Model;
 use thiserror::Error;
 
@@ -122,6 +126,16 @@ impl Eq for Name {
     ghost laws = { nat_list_eq_equiv };
 }
 
+impl Hash for Name {
+    ghost hash_input = { fed.str };
+
+    ghost respects_eq = { Prim.search (hashing, rules) };
+
+    fn hash<H: Hasher>(&self, state: &mut H) {
+        self.as_str().hash(state);
+    }
+}
+
 impl PartialOrd for Name {
     ghost partial_cmp = { λ a b. Some (slice_cmp nat_cmp a b) };
 
@@ -149,6 +163,7 @@ impl Ord for Name {
 #[cfg(test)]
 mod tests {
     use super::*;
+    use std::collections::HashMap;
     use std::test::Fail;
 
     #[test]
@@ -158,6 +173,18 @@ mod tests {
             assert_eq!(rt; name.as_str(), text);
             assert!(rt; name.copy(rt.alloc())? == name, "a copy of {text}");
         }
+        Ok(())
+    }
+
+    #[test]
+    fn is_looked_up_by_an_equal_name(rt: HostRuntime) -> Result<(), Fail> {
+        let name = Name::read(rt.alloc(), "größe")?;
+        let same = name.copy(rt.alloc())?;
+        let other = Name::read(rt.alloc(), "Größe")?;
+        let mut numbers = HashMap::new(rt.alloc());
+        numbers.insert(name, 7u32)?;
+        assert_eq!(rt; numbers.get(&same).copied(), Some(7));
+        assert_eq!(rt; numbers.get(&other).copied(), None);
         Ok(())
     }
 
