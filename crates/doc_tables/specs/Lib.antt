@@ -1,0 +1,5 @@
+pub mod Numbered
+pub mod Accessors
+pub mod DependencyLists
+pub mod Primitives
+pub mod VarSets

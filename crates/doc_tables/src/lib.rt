@@ -1,0 +1,8 @@
+//! A document as tables: objects and properties by name, slots by number.
+#![tactic(auto)]
+
+mod entry;
+mod rule;
+
+pub use entry::{ObjectEntry, PropertyEntry, SlotPlace};
+pub use rule::Rule;
