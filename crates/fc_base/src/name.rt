@@ -115,7 +115,7 @@ impl Name {
     }
 
     /// The text value with the same text.
-    #[tactic(auto, using(crate::proofs::NameTexts::name_is_text_value))]
+    #[tactic(auto, using(crate::proofs::NameTexts::name_length, crate::proofs::NameTexts::name_text_bytes))]
     pub fn to_text_value(&self, alloc: Global) -> Result<TextValue, AllocError>
         ensures { IfOk result (λ value. value ≡ self.now) }
     {

@@ -81,9 +81,11 @@ impl TextValue {
         Ok(TextValue { text })
     }
 
-    /// The text value with that text, of which the caller knows that it is one.
+    /// The text value with that text.
+    #[tactic(auto, using(crate::proofs::TextLemmas::string_is_text_value))]
     pub fn of(text: String) -> TextValue
-        requires { IsTrue (is_text_value (string_bytes text)) }
+        requires short { length (string_bytes text) ≤ 1024 }
+        requires bytes { IsTrue (list_all is_text_byte (string_bytes text)) }
         ensures { result ≡ string_bytes text }
     {
         TextValue { text }
