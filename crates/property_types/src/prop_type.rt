@@ -130,7 +130,7 @@ impl PropType {
     {
         Ok(match self.sort() {
             Sort::Number(unit) => Value::Number(Quantity {
-                amount: no_amount(),
+                amount: zero_amount(),
                 unit,
             }),
             Sort::Flag => Value::Flag(false),
@@ -166,7 +166,7 @@ impl PropType {
 }
 
 /// 0.
-fn no_amount() -> Amount
+fn zero_amount() -> Amount
     ensures { result ≡ pos 0 }
 {
     match Amount::of_raw(0) {
