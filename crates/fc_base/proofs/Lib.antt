@@ -2,6 +2,7 @@ pub mod AddressLemmas
 pub mod NameLemmas
 pub mod RowLemmas
 pub mod TextLemmas
+pub mod NameTexts
 pub mod HeldLemmas
 pub mod ReadingLemmas
 pub mod GraphLemmas

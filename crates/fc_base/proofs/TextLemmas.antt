@@ -4,12 +4,18 @@ use Rattle.std.specs.List.{list_all}
 use Rattle.std.specs.Str.{IsUtf8}
 use Rattle.std.specs.Str.Iter.{HasSubslice}
 use Rattle.std.proofs.lemmas.Bool.{and_parts, or_cases, or_right, eqb-true, le-leb, false≢true}
-use Rattle.std.proofs.lemmas.Str.{is_utf8-from_IsUtf8}
+use Rattle.std.proofs.lemmas.Str.{is_utf8-from_IsUtf8, IsUtf8-string_bytes}
+use Rattle.std.specs.String.{string_bytes}
+use Rattle.std.specs.Prelude.{String}
 use Rattle.fc_base.specs.Texts.{is_text_byte, is_text_value, has_closing_mark, ends_in_mark}
 
 -- of a text that is short enough, the bytes alone decide
 pub is_text_value-short : (text : List ℕ) → IsUtf8 text → length text ≤ 1024 → is_text_value text ≡ list_all is_text_byte text
 is_text_value-short text utf8 short = rw (is_utf8-from_IsUtf8 text utf8, le-leb (length text) 1024 short)
+
+-- a String is UTF-8, so its length and its bytes decide
+pub string_is_text_value : {Z : Type 0} (s : String Z) → length (string_bytes s) ≤ 1024 → list_all is_text_byte (string_bytes s) ≡ true → is_text_value (string_bytes s) ≡ true
+string_is_text_value s short bytes = is_text_value-short (string_bytes s) (IsUtf8-string_bytes s) short ∙ bytes
 
 -- the two bytes `>>`
 abbrev marks : List ℕ

@@ -1,4 +1,4 @@
-ghost use Rattle.std.specs.Prelude.{◌≡◌, ◌↔◌, false, nat_eq, Some, refl, IsTrue, IfOk, IsErrOf};
+ghost use Rattle.std.specs.Prelude.{◌≡◌, ◌↔◌, false, nat_eq, Some, refl, IsTrue, IfOk, IsErrOf, string_bytes};
 ghost use Rattle.std.proofs.Common.{rules};
 ghost use Rattle.std.specs.Cmp.{partial_equiv_from_equiv};
 ghost use Rattle.std.specs.Cmp.Lexicographic.{slice_cmp, pointwise, nat_list_eq_equiv, nat_list_cmp_total, texts_po, texts_ties};
@@ -89,6 +89,14 @@ impl Label {
         }
         let text = String::from_str(alloc, text).map_err(LabelFault::Memory)?;
         Ok(Label { text })
+    }
+
+    /// The label with that text.
+    pub(crate) fn of(text: String) -> Label
+        requires { IsTrue (is_label (string_bytes text)) }
+        ensures { result ≡ string_bytes text }
+    {
+        Label { text }
     }
 
     /// An equal label.

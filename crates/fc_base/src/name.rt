@@ -10,6 +10,8 @@ ghost use Rattle.std.specs.Str.{chars};
 ghost use Rattle.unicode_ident.specs.Ident.{is_xid_continue};
 ghost use Rattle.fc_base.specs.Texts.{begins_name, spells_name, is_name, is_name_byte};
 
+use crate::label::Label;
+use crate::text_value::TextValue;
 use std::alloc::{AllocError, Global};
 use std::cmp::Ordering;
 use std::hash::{Hash, Hasher};
@@ -103,6 +105,24 @@ impl Name {
         Ok(Name { text })
     }
 
+    /// The label with the same text.
+    #[tactic(auto, using(crate::proofs::NameTexts::name_is_label))]
+    pub fn to_label(&self, alloc: Global) -> Result<Label, AllocError>
+        ensures { IfOk result (λ label. label ≡ self.now) }
+    {
+        let text = String::from_str(alloc, self.as_str())?;
+        Ok(Label::of(text))
+    }
+
+    /// The text value with the same text.
+    #[tactic(auto, using(crate::proofs::NameTexts::name_length, crate::proofs::NameTexts::name_text_bytes))]
+    pub fn to_text_value(&self, alloc: Global) -> Result<TextValue, AllocError>
+        ensures { IfOk result (λ value. value ≡ self.now) }
+    {
+        let text = String::from_str(alloc, self.as_str())?;
+        Ok(TextValue::of(text))
+    }
+
     /// The name as text.
     pub fn as_str(&self) -> &str
         ensures text { result.now ≡ self.now }
@@ -172,6 +192,8 @@ mod tests {
             let name = Name::read(rt.alloc(), text)?;
             assert_eq!(rt; name.as_str(), text);
             assert!(rt; name.copy(rt.alloc())? == name, "a copy of {text}");
+            assert_eq!(rt; name.to_label(rt.alloc())?.as_str(), text);
+            assert_eq!(rt; name.to_text_value(rt.alloc())?.as_str(), text);
         }
         Ok(())
     }

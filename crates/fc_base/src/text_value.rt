@@ -1,4 +1,4 @@
-ghost use Rattle.std.specs.Prelude.{◌≡◌, ◌↔◌, ◌<◌, ◌≤◌, length, false, nat_eq, Some, refl, IsTrue, IfOk, IsErrOf};
+ghost use Rattle.std.specs.Prelude.{◌≡◌, ◌↔◌, ◌<◌, ◌≤◌, length, false, nat_eq, Some, refl, IsTrue, IfOk, IsErrOf, string_bytes};
 ghost use Rattle.std.specs.Cmp.{partial_equiv_from_equiv};
 ghost use Rattle.std.specs.Cmp.Lexicographic.{slice_cmp, pointwise, nat_list_eq_equiv, nat_list_cmp_total, texts_po, texts_ties};
 ghost use Rattle.std.specs.Ordering.{nat_cmp};
@@ -79,6 +79,16 @@ impl TextValue {
         }
         let text = String::from_str(alloc, text).map_err(TextFault::Memory)?;
         Ok(TextValue { text })
+    }
+
+    /// The text value with that text.
+    #[tactic(auto, using(crate::proofs::TextLemmas::string_is_text_value))]
+    pub fn of(text: String) -> TextValue
+        requires short { length (string_bytes text) ≤ 1024 }
+        requires bytes { IsTrue (list_all is_text_byte (string_bytes text)) }
+        ensures { result ≡ string_bytes text }
+    {
+        TextValue { text }
     }
 
     /// An equal text value.

@@ -1,10 +1,13 @@
-ghost use Rattle.std.specs.Prelude.{◌≡◌, ◌≢◌, IfOk, IsTrue};
+ghost use Rattle.std.specs.Prelude.{◌≡◌, ◌≢◌, pos, IfOk, IsTrue};
 ghost use Rattle.std.specs.List.{list_all};
 ghost use Rattle.unit_signatures.specs.Units.{is_exponent};
 ghost use Rattle.property_types.specs.declared.prop_type.PropType.TheVariants.{Turn, Placement};
 ghost use Rattle.property_types.specs.declared.prop_type.Sort.TheVariants.{Number};
-ghost use Rattle.property_types.specs.Types.{sort_of_type, type_name_of, type_named, unit_of};
+ghost use Rattle.property_types.specs.Types.{sort_of_type, type_name_of, type_named, unit_of, zero_value};
 
+use crate::value::Value;
+use fc_base::TextValue;
+use quantities::{Amount, Quantity, Range};
 use std::alloc::{AllocError, Global};
 use unit_signatures::Unit;
 
@@ -120,6 +123,21 @@ impl PropType {
         }
     }
 
+    /// The value of a new slot of the type: 0 in the type's unit, false or the empty text.
+    pub fn zero(&self, alloc: Global) -> Result<Value, AllocError>
+        requires { self.now ≢ Placement }
+        ensures { IfOk result (λ value. value ≡ zero_value self.now) }
+    {
+        Ok(match self.sort() {
+            Sort::Number(unit) => Value::Number(Quantity {
+                amount: zero_amount(),
+                unit,
+            }),
+            Sort::Flag => Value::Flag(false),
+            Sort::Text => Value::Text(TextValue::of(String::new(alloc))),
+        })
+    }
+
     /// An equal type.
     pub fn copy(&self, _alloc: Global) -> Result<PropType, AllocError>
         ensures { IfOk result (λ prop. prop ≡ self.now) }
@@ -144,6 +162,16 @@ impl PropType {
             PropType::Placement => PropType::Placement,
             PropType::Turn => PropType::Turn,
         })
+    }
+}
+
+/// 0.
+fn zero_amount() -> Amount
+    ensures { result ≡ pos 0 }
+{
+    match Amount::of_raw(0) {
+        Ok(zero) => zero,
+        Err(Range) => unreachable!(),
     }
 }
 

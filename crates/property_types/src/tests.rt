@@ -146,6 +146,17 @@ fn names_types_and_units(rt: HostRuntime) -> Result<(), Fail> {
 }
 
 #[test]
+fn gives_zeros(rt: HostRuntime) -> Result<(), Fail> {
+    let alloc = rt.alloc();
+    assert!(rt; PropType::Length.zero(alloc)? == number(0, "mm")?);
+    assert!(rt; PropType::Turn.zero(alloc)? == number(0, "")?);
+    assert!(rt; PropType::Bool.zero(alloc)? == Value::Flag(false));
+    let empty = TextValue::read(alloc, "")?;
+    assert!(rt; PropType::String.zero(alloc)? == Value::Text(empty));
+    Ok(())
+}
+
+#[test]
 fn copies_plans(rt: HostRuntime) -> Result<(), Fail> {
     let alloc = rt.alloc();
     let mut inputs = Vec::new(alloc);
