@@ -1,0 +1,11 @@
+//! How things that read others can be put into an order, and which of them read themselves.
+//!
+//! Things are nodes with numbers from 0, and each has the numbers of the nodes that it reads, its
+//! inputs.
+#![tactic(auto)]
+
+mod nodes;
+mod ordering;
+mod walk;
+
+pub use ordering::in_order;
