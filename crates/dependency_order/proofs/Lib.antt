@@ -1,3 +1,4 @@
 pub mod ListLemmas
 pub mod NodeLemmas
 pub mod WalkLemmas
+pub mod SpreadLemmas

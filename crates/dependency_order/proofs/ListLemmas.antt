@@ -60,3 +60,8 @@ IsOrdered-push deps seen (y ∷ order) x ordered behind new unseen = (
   IsOrdered-push deps (y ∷ seen) order x ordered.2 (λ d i. ready_before d y seen order (behind d i)) (λ i. new (inr i))
       (λ i. elim i [ inl e ↦ new (inl e) | inr j ↦ unseen j ]),
 )
+
+pub IsIn-at : {S : Type 0} (xs : List S) (i : ℕ) (d : S) → i < length xs → IsIn (get_or xs i d) xs
+IsIn-at [] i d lt = absurd (omega arith)
+IsIn-at (y ∷ xs) zero d lt = inl refl
+IsIn-at (y ∷ xs) (suc i) d lt = inr (IsIn-at xs i d (omega arith))

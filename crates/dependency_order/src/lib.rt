@@ -6,6 +6,9 @@
 
 mod nodes;
 mod ordering;
+mod reaching;
+mod spread;
 mod walk;
 
 pub use ordering::in_order;
+pub use reaching::reaches_itself;
