@@ -7,7 +7,8 @@
 mod nodes;
 mod ordering;
 mod reaching;
-mod spread;
+#[cfg(test)]
+mod tests;
 mod walk;
 
 pub use ordering::in_order;

@@ -1,7 +1,7 @@
 use Rattle.std.proofs.Common.{false, sym, ◌∙◌}
 use Rattle.std.proofs.lemmas.List.{get_or_read}
 use Rattle.dependency_order.proofs.SpreadLemmas.{takes_new}
-use Rattle.dependency_order.proofs.spread.Spread.reach.Goals as goal
+use Rattle.dependency_order.proofs.reaching.Spread.reach.Goals as goal
 
 pub returns-in_ok-push : goal.returns-in_ok-push
 returns-in_ok-push c =

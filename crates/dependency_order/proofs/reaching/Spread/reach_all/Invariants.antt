@@ -1,7 +1,7 @@
 use Rattle.std.proofs.Common.{ℕ, take}
 use Rattle.fc_base.specs.Graph.{IsIn}
 use Rattle.dependency_order.specs.Spreads.{TakesIn}
-use Rattle.dependency_order.proofs.spread.Spread.reach_all.Given as goal
+use Rattle.dependency_order.proofs.reaching.Spread.reach_all.Given as goal
 
 -- the nodes before the index are taken in, and the start is none of them
 abbrev pub invariant-loop-node : goal.invariant-loop-node

@@ -3,7 +3,7 @@ use Rattle.std.proofs.lemmas.List.{take_more}
 use Rattle.fc_base.specs.Graph.{IsIn}
 use Rattle.dependency_order.proofs.ListLemmas.{IsIn-at, IsIn-push}
 use Rattle.dependency_order.proofs.SpreadLemmas.{takes_more}
-use Rattle.dependency_order.proofs.spread.Spread.reach_all.Goals as goal
+use Rattle.dependency_order.proofs.reaching.Spread.reach_all.Goals as goal
 
 pub returns-then-node-start : goal.returns-then-node-start
 returns-then-node-start c =
