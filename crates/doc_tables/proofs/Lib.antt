@@ -1,0 +1,4 @@
+pub mod NumberLemmas
+pub mod OrderLemmas
+pub mod ReadingLemmas
+pub mod VarSetLemmas
