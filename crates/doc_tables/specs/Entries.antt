@@ -1,10 +1,12 @@
 -- What tables hold of a slot.
-use Rattle.std.specs.Prelude.{◌≡◌, ◌^◌, ◌<◌, ℕ, Some}
+use Rattle.std.specs.Prelude.{◌≡◌, ◌^◌, ◌<◌, ℕ, List, map, Some}
 use Rattle.std.specs.Option.{option_and_then}
+use Rattle.fc_base.specs.declared.ids.SlotId.{SlotId}
 use Rattle.expr_grammar.specs.References.{reference_count}
 use Rattle.document_model.specs.declared.content.Content.{Content}
 use Rattle.document_model.specs.declared.content.Content.TheVariants.{Own, Bound}
 use Rattle.document_model.specs.Slots.{rule_of_content, type_of}
+use Rattle.doc_tables.specs.declared.entry.ObjectEntry.{ObjectEntry}
 use Rattle.doc_tables.specs.declared.entry.PropertyEntry.{PropertyEntry}
 use Rattle.doc_tables.specs.Accessors.{rule_at}
 use Rattle.doc_tables.specs.Numbered.{Numbered, slot_at}
@@ -13,6 +15,10 @@ use Rattle.doc_tables.specs.Numbered.{Numbered, slot_at}
 abbrev pub HasFewReferences : Content → Type 0
 HasFewReferences (Own v) = Unit {0}
 HasFewReferences (Bound e) = reference_count e < 2 ^ 32
+
+-- the numbers of the slots of an object
+abbrev pub numbers_in : List ℕ × ObjectEntry → List SlotId
+numbers_in o = map (λ (e : List ℕ × PropertyEntry). e.1.slot) o.1.properties.entries
 
 -- The entry has the type and the rule of the slot of a number.
 pub record IsEntryOf (t : Numbered) (n : ℕ) (e : PropertyEntry) : Type 0 where
