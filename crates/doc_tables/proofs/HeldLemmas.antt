@@ -1,5 +1,5 @@
 -- What is held is the document: its rows are the properties, and its slots are found by name.
-use Rattle.std.proofs.Common.{◌≡◌, ◌≢◌, ◌<◌, ℕ, zero, suc, Bool, true, false, nat_eq, List, [], ◌∷◌, ◌++◌, map, Option, Some, None, IsSome, slice_get, get_or, refl, sym, ap, subst, ◌∙◌}
+use Rattle.std.proofs.Common.{◌≡◌, ◌≢◌, ◌<◌, ℕ, zero, suc, Bool, true, false, nat_eq, List, [], ◌∷◌, ◌++◌, map, length, Option, Some, None, IsSome, is_some, slice_get, get_or, refl, sym, ap, subst, ◌∙◌, arith}
 use Rattle.std.specs.Cmp.Lexicographic.{pointwise}
 use Rattle.std.specs.List.{find, flat_map, AllByRecursion}
 use Rattle.std.specs.Option.{option_and_then, option_map}
@@ -204,6 +204,9 @@ entry-read v t held is n o e used r =
       type = ap (option_and_then (type_of d)) s.1 ∙ type-stands t held r.place o e s.0;
       rule = ap (option_and_then (rule_of d)) s.1 ∙ rule-stands t held r.place o e s.0;
       references = (property-held t held r.place o e s.0).references;
+      owner =
+          ap (λ (x : Option Slot). is_some (option_and_then (λ (q : Slot). object_named d q.object) x)) s.1
+          ∙ ap is_some (object-found t held (r.place).object o s.0.object);
     })
 
 -- the slots of an object
@@ -264,3 +267,24 @@ owner-read v t held is n o e used r =
     let s = reads-stands t held n o e (subst (λ (w : Numbered). IsSome (slot_at w n)) (sym is) used) r in
     subst (λ (w : Numbered). name_at w (r.place).object ≡ option_map (λ (x : Slot). x.object) (slot_at w n)) is
     (name_at-place t (r.place).object o s.0.object ∙ sym (ap (option_map (λ (x : Slot). x.object)) s.1))
+
+-- below the length there is a member
+pub member_below : {A : Type 0} (xs : List A) (n : ℕ) → n < length xs → (x : A) × (slice_get xs n ≡ Some x)
+member_below [] n h = absurd (omega arith)
+member_below (x ∷ xs) zero h = (x, refl)
+member_below (x ∷ xs) (suc n) h = member_below xs n (omega arith)
+
+some_number : (x : Option (List ℕ × Named)) (n : ℕ) → option_map (λ (id : SlotId). id.0) (option_map (λ (e : List ℕ × Named). e.1.1.slot) x) ≡ Some n → IsSome (option_map slot_of_entry x)
+some_number None n h = absurd (cc)
+some_number (Some e) n h = refl
+
+used-held : (t : Inside) → IsHeld t → (n : ℕ) → n < length t.places.items → IsSome (slot_at (numbered_held t) n)
+used-held t held n below =
+    let m = member_below t.places.items n below in
+    ap (λ (x : Option (Option Slot)). is_some (option_and_then (λ (y : Option Slot). y) x))
+    (slice_get-map (slot_held t.objects.entries) t.places.items n ∙ ap (option_map (slot_held t.objects.entries)) m.1)
+    ∙ some_number (entry_at t.objects.entries m.0) n (held.back m.0 n m.1)
+
+-- each number below the limit is in use
+pub used-read : (v : Numbered) (t : Inside) → IsHeld t → numbered_held t ≡ v → (n : ℕ) → n < length t.places.items → IsSome (slot_at v n)
+used-read v t held is n below = subst (λ (w : Numbered). IsSome (slot_at w n)) is (used-held t held n below)

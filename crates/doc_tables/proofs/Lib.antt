@@ -4,3 +4,6 @@ pub mod ReadingLemmas
 pub mod VarSetLemmas
 pub mod Finding
 pub mod HeldLemmas
+pub mod ResolveLemmas
+pub mod DependencyLemmas
+pub mod ListLemmas

@@ -1,7 +1,9 @@
 //! A document as tables: objects and properties by name, slots by number.
 #![tactic(auto)]
 
+mod dependencies;
 mod entry;
+mod objects;
 mod rule;
 mod slots;
 mod tables;

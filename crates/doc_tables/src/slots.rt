@@ -1,9 +1,10 @@
-ghost use Rattle.std.specs.Prelude.{◌≡◌, ◌<◌, ◌^◌, ◌++◌, length, map, IfOk, IfSome, IsSome, OnOk, option_map};
+ghost use Rattle.std.specs.Prelude.{◌≡◌, ◌<◌, ◌^◌, ◌++◌, length, map, IfOk, IfSome, IsSome, IsTrue, OnOk, option_map, string_bytes};
 ghost use Rattle.std.specs.List.{flat_map};
 ghost use Rattle.std.specs.Option.{option_and_then};
+ghost use Rattle.fc_base.specs.Texts.{is_text_value};
 ghost use Rattle.expr_grammar.specs.References.{reference_count};
 ghost use Rattle.document_model.specs.Slots.{slots, type_of};
-ghost use Rattle.doc_tables.specs.Accessors.{AreNumbersOf, IsRule, own_at, rule_at, tree_at};
+ghost use Rattle.doc_tables.specs.Accessors.{AreNumbersOf, IsRule, outside_path, own_at, rule_at, tree_at};
 ghost use Rattle.doc_tables.specs.Entries.{IsEntryOf, numbers_in};
 ghost use Rattle.doc_tables.specs.Numbered.{name_at, slot_at};
 
@@ -14,6 +15,7 @@ use document_model::Content;
 use expr_grammar::Expr;
 use fc_base::{Name, ObjectId, SlotId};
 use indexmap::IndexMap;
+use object_paths::{SlotName, slot_path};
 use property_types::{PropType, Value};
 use std::alloc::{AllocError, Global};
 
@@ -46,7 +48,7 @@ fn numbers_in_order(
 
 impl Tables {
     /// What stands in a slot.
-    fn entry_of(&self, slot: SlotId) -> &PropertyEntry
+    pub(crate) fn entry_of(&self, slot: SlotId) -> &PropertyEntry
         requires { IsSome (slot_at self.now slot.0) }
         ensures { IsEntryOf self.now slot.0 result.now }
     {
@@ -133,5 +135,19 @@ impl Tables {
         ensures { IfOk result (λ v. AreNumbersOf self.now v.items (slots self.now.document)) }
     {
         numbers_in_order(alloc, &self.objects)
+    }
+
+    /// The path of a slot from outside, such as `V.a`. It is short enough, and has no character, that
+    /// a text value could not have.
+    pub fn path_of(&self, alloc: Global, slot: SlotId) -> Result<String, AllocError>
+        requires { IsSome (slot_at self.now slot.0) }
+        ensures path { IfOk result (λ text. Some (string_bytes text) ≡ option_map outside_path (slot_at self.now slot.0)) }
+        ensures value { IfOk result (λ text. IsTrue (is_text_value (string_bytes text))) }
+    {
+        let place = self.places[slot.0 as usize];
+        let (owner, object) = self.objects.get_index(place.object).unwrap();
+        let (name, _) = object.properties.get_index(place.property).unwrap();
+        let path = slot_path(alloc, owner, &SlotName::Plain(name.copy(alloc)?))?;
+        String::from_str(alloc, path.as_str())
     }
 }

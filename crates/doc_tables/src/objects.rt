@@ -1,0 +1,92 @@
+ghost use Rattle.std.specs.Prelude.{◌≡◌, position, slice_get, IsSome, Some, option_map};
+ghost use Rattle.std.specs.Option.{option_and_then, option_copied};
+ghost use Rattle.object_paths.specs.Slots.{same_text};
+ghost use Rattle.document_model.specs.Document.{object_labelled, object_named};
+ghost use Rattle.document_model.specs.Resolution.{resolve};
+ghost use Rattle.doc_tables.specs.Accessors.{IsNumberOf};
+ghost use Rattle.doc_tables.specs.Entries.{IsEntryFor, number_in};
+ghost use Rattle.doc_tables.specs.Numbered.{name_at, object_at};
+
+use crate::entry::ObjectEntry;
+use crate::tables::Tables;
+use fc_base::{Label, Name, ObjectId, SlotId};
+use indexmap::IndexMap;
+use object_paths::{Owner, Path, SlotName};
+
+/// The place of the first object of that label.
+fn place_labelled(objects: &IndexMap<Name, ObjectEntry>, label: &str) -> Option<usize>
+    ensures { result ≡ position (λ e. same_text e.1.label label.now) objects.now.entries }
+{
+    objects
+        .iter()
+        .position(|(_, entry)| entry.label.as_str() == label)
+}
+
+/// The number of a slot of an object, where there is one.
+fn number_in(entry: Option<&ObjectEntry>, name: &SlotName) -> Option<SlotId>
+    ensures { result ≡ option_and_then (λ e. number_in e name.now) (option_copied entry.entry) }
+{
+    let entry = entry?;
+    match name {
+        SlotName::Plain(name) => {
+            let property = entry.properties.get(name)?;
+            Some(property.slot)
+        }
+        SlotName::Component(_, _) => None,
+        SlotName::Marked(_) => None,
+    }
+}
+
+/// The entry at a place, where there is one.
+fn entry_at(objects: &IndexMap<Name, ObjectEntry>, place: Option<usize>) -> Option<&ObjectEntry>
+    ensures { option_copied result
+        ≡ option_map (λ o. o.1) (option_and_then (slice_get objects.now.entries) place) }
+{
+    match place {
+        None => None,
+        Some(place) => {
+            let (_, entry) = objects.get_index(place)?;
+            Some(entry)
+        }
+    }
+}
+
+impl Tables {
+    /// The entry of an object.
+    fn entry_of_object(&self, object: ObjectId) -> &ObjectEntry
+        requires { IsSome (name_at self.now object.0) }
+        ensures { IsEntryFor self.now (object_at self.now object.0) (Some result.now) }
+    {
+        let (_, entry) = self.objects.get_index(object.0 as usize).unwrap();
+        entry
+    }
+
+    /// The entry of the object of that name.
+    fn entry_named(&self, name: &Name) -> Option<&ObjectEntry>
+        ensures { IsEntryFor self.now (object_named self.now.document name.now) (option_copied result) }
+    {
+        self.objects.get(name)
+    }
+
+    /// The entry of the first object of that label.
+    fn entry_labelled(&self, label: &Label) -> Option<&ObjectEntry>
+        ensures { IsEntryFor self.now (object_labelled self.now.document label.now) (option_copied result) }
+    {
+        let place = place_labelled(&self.objects, label.as_str());
+        entry_at(&self.objects, place)
+    }
+
+    /// The slot that a path of an object names; none exactly where it names none.
+    pub fn resolve(&self, owner: ObjectId, path: &Path) -> Option<SlotId>
+        requires { IsSome (name_at self.now owner.0) }
+        ensures { IsNumberOf self.now result
+            (option_and_then (λ o. resolve self.now.document o path.now) (object_at self.now owner.0)) }
+    {
+        let here = self.entry_of_object(owner);
+        match &path.owner {
+            Owner::Here => number_in(Some(here), &path.slot),
+            Owner::ByName(name) => number_in(self.entry_named(name), &path.slot),
+            Owner::ByLabel(label) => number_in(self.entry_labelled(label), &path.slot),
+        }
+    }
+}
