@@ -7,3 +7,5 @@ pub mod HeldLemmas
 pub mod ResolveLemmas
 pub mod DependencyLemmas
 pub mod ListLemmas
+pub mod VarSetsHeld
+pub mod NumberedHeld
