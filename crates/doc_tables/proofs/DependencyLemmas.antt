@@ -1,6 +1,6 @@
 -- The dependencies of a held slot are the slots that its references name.
-use Rattle.std.proofs.Common.{◌≡◌, ◌<◌, ℕ, zero, suc, Bool, true, false, nat_eq, List, [], ◌∷◌, ◌++◌, map, length, Option, Some, None, IsSome, slice_get, refl, sym, ap, subst, ◌∙◌, append-nil}
-use Rattle.std.specs.List.{filter_map, flat_map, AllByRecursion}
+use Rattle.std.proofs.Common.{◌≡◌, ℕ, List, [], ◌∷◌, ◌++◌, map, Option, Some, None, IsSome, refl, sym, ap, subst, ◌∙◌, append-nil}
+use Rattle.std.specs.List.{flat_map}
 use Rattle.std.specs.Option.{option_and_then, option_map, option_map_or, option_to_list}
 use Rattle.std.proofs.lemmas.Bool.{false≢true}
 use Rattle.std.proofs.lemmas.Simd.{map-map}
@@ -8,7 +8,7 @@ use Rattle.fc_base.specs.declared.ids.SlotId.{SlotId}
 use Rattle.object_paths.specs.Slots.{Slot}
 use Rattle.expr_grammar.specs.declared.reference.Reference as listed
 use Rattle.expr_grammar.specs.ListedReferences.{reference_of}
-use Rattle.expr_grammar.specs.References.{Reference, references}
+use Rattle.expr_grammar.specs.References.{references}
 use Rattle.expr_grammar.specs.Tree.{Tree}
 use Rattle.document_model.specs.declared.content.Content.{Content}
 use Rattle.document_model.specs.declared.content.Content.TheVariants.{Own, Bound}
@@ -17,11 +17,11 @@ use Rattle.document_model.specs.Dependencies.{deps, deps_by, cells_reached, slot
 use Rattle.document_model.specs.Document.{Document, Object, object_named}
 use Rattle.document_model.specs.Slots.{Rule, bound, rule_of, rule_of_content}
 use Rattle.doc_tables.specs.declared.tables.Tables.TheInside.{Inside}
-use Rattle.doc_tables.specs.Accessors.{AreNumbersOf, AreReached, deps_at, reached_at, rule_at, slots_reached, tree_at, tree_by}
-use Rattle.doc_tables.specs.Entries.{IsEntryOf, present, reached_by}
+use Rattle.doc_tables.specs.Accessors.{AreNumbersOf, AreReached, deps_at, reached_at, rule_at, slots_reached, tree_by}
+use Rattle.doc_tables.specs.Entries.{present, reached_by}
 use Rattle.doc_tables.specs.Held.{object_held, document_held, numbered_held, IsHeld}
-use Rattle.doc_tables.specs.Numbered.{Numbered, name_at, object_at, slot_at}
-use Rattle.doc_tables.proofs.HeldLemmas.{Owned, Named, At, at_number-held, object-found, rule-stands, slot_named}
+use Rattle.doc_tables.specs.Numbered.{Numbered, name_at, slot_at}
+use Rattle.doc_tables.proofs.HeldLemmas.{At, at_number-held, object-found, rule-stands, slot_named}
 use Rattle.doc_tables.proofs.VarSetLemmas.{cells-none}
 
 -- what is there of the numbers are the numbers of what is there of the slots

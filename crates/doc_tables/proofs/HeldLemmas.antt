@@ -1,29 +1,26 @@
 -- What is held is the document: its rows are the properties, and its slots are found by name.
-use Rattle.std.proofs.Common.{◌≡◌, ◌≢◌, ◌<◌, ℕ, zero, suc, Bool, true, false, nat_eq, List, [], ◌∷◌, ◌++◌, map, length, Option, Some, None, IsSome, is_some, slice_get, get_or, refl, sym, ap, subst, ◌∙◌, arith}
-use Rattle.std.specs.Cmp.Lexicographic.{pointwise}
-use Rattle.std.specs.List.{find, flat_map, AllByRecursion}
+use Rattle.std.proofs.Common.{◌≡◌, ◌≢◌, ◌<◌, ℕ, zero, suc, List, [], ◌∷◌, ◌++◌, map, length, Option, Some, None, IsSome, is_some, slice_get, get_or, refl, sym, ap, subst, ◌∙◌, arith}
+use Rattle.std.specs.List.{flat_map, AllByRecursion}
 use Rattle.std.specs.Option.{option_and_then, option_map}
 use Rattle.std.proofs.lemmas.Bool.{false≢true}
 use Rattle.std.proofs.lemmas.List.{map-append}
 use Rattle.std.proofs.lemmas.Option.{slice_get-map, get_or_from_slice_get}
 use Rattle.fc_base.specs.declared.ids.SlotId.{SlotId}
-use Rattle.object_paths.specs.declared.slot_name.SlotName.{SlotName}
-use Rattle.object_paths.specs.declared.slot_name.SlotName.TheVariants.{Plain, Component, Marked}
+use Rattle.object_paths.specs.declared.slot_name.SlotName.TheVariants.{Plain}
 use Rattle.object_paths.specs.Slots.{Slot, same_text, same_slot_name}
 use Rattle.property_types.specs.declared.prop_type.PropType.{PropType}
 use Rattle.property_types.specs.declared.prop_type.PropType.TheVariants as prop
-use Rattle.document_model.specs.declared.content.Content.{Content}
-use Rattle.document_model.specs.Document.{Document, Object, Property, object_named}
-use Rattle.document_model.specs.Slots.{Row, Rule, rule_of_content, rows_in_order, row_with, rows, row_in, row_of, rule_of, type_of, slot_of, slots}
+use Rattle.document_model.specs.Document.{Document, Object, object_named}
+use Rattle.document_model.specs.Slots.{Row, rule_of_content, rows_in_order, row_with, rows, row_in, row_of, rule_of, type_of, slot_of, slots}
 use Rattle.document_model.specs.TypedSlots.{property_slots}
 use Rattle.doc_tables.specs.declared.entry.ObjectEntry.{ObjectEntry}
 use Rattle.doc_tables.specs.declared.entry.PropertyEntry.{PropertyEntry}
 use Rattle.doc_tables.specs.declared.entry.SlotPlace.{SlotPlace}
 use Rattle.doc_tables.specs.declared.tables.Tables.TheInside.{Inside}
-use Rattle.doc_tables.specs.Accessors.{AreNumbersOf, rule_at}
+use Rattle.doc_tables.specs.Accessors.{AreNumbersOf}
 use Rattle.doc_tables.specs.Entries.{IsEntryOf, numbers_in}
 use Rattle.doc_tables.specs.Held.{property_held, object_held, document_held, entry_at, slot_of_entry, slot_held, number_held, numbered_held, IsPropertyHeld, IsObjectHeld, IsHeld}
-use Rattle.doc_tables.specs.Numbered.{Numbered, at_number, name_at, slot_at}
+use Rattle.doc_tables.specs.Numbered.{Numbered, name_at, slot_at}
 use Rattle.doc_tables.proofs.Finding.{find-map, find-at}
 
 -- a property with its name, and an object with its name

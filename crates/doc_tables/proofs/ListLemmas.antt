@@ -1,5 +1,5 @@
 -- The dependency lists so far, with one more.
-use Rattle.std.proofs.Common.{◌≡◌, ◌+◌, ◌<◌, ℕ, zero, suc, List, [], ◌∷◌, ◌++◌, map, length, Option, Some, None, slice_get, unwrap_or, refl, sym, ap, subst, ◌∙◌, arith, below_more}
+use Rattle.std.proofs.Common.{◌≡◌, ◌+◌, ◌<◌, ℕ, zero, suc, List, [], ◌∷◌, ◌++◌, map, length, Option, Some, slice_get, unwrap_or, refl, ap, subst, ◌∙◌, arith, below_more}
 use Rattle.doc_tables.specs.Accessors.{deps_at}
 use Rattle.doc_tables.specs.DependencyLists.{list_at}
 use Rattle.doc_tables.specs.Numbered.{Numbered, slot_at}

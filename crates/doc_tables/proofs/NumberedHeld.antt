@@ -1,5 +1,5 @@
 -- In what is held numbers in use and slots are one to one, and so are numbers and objects.
-use Rattle.std.proofs.Common.{◌≡◌, ◌<◌, ℕ, zero, suc, Bool, true, false, nat_eq, List, [], ◌∷◌, map, length, Option, Some, None, IsSome, IsTrue, is_some, slice_get, position, refl, sym, ap, subst, ◌∙◌, inl, inr}
+use Rattle.std.proofs.Common.{◌≡◌, ℕ, zero, suc, Bool, true, false, List, [], ◌∷◌, map, Option, Some, None, IsTrue, is_some, slice_get, position, refl, sym, ap, subst, ◌∙◌, inl, inr}
 use Rattle.std.specs.Prelude.{◌↔◌}
 use Rattle.std.specs.List.{find, flat_map}
 use Rattle.std.specs.Option.{option_and_then, option_map, option_map_or}
@@ -10,15 +10,14 @@ use Rattle.fc_base.specs.Graph.{IsIn}
 use Rattle.object_paths.specs.declared.slot_name.SlotName.{SlotName}
 use Rattle.object_paths.specs.declared.slot_name.SlotName.TheVariants.{Plain, Component, Marked}
 use Rattle.object_paths.specs.Slots.{Slot, same_slot, same_text, SameSlotIsEquality}
-use Rattle.document_model.specs.Document.{Document, Object, object_named}
+use Rattle.document_model.specs.Document.{Object, object_named}
 use Rattle.document_model.specs.Slots.{slots}
 use Rattle.document_model.proofs.Members.{from_map, from_flat_map, IsIn-map, IsIn-flat_map}
-use Rattle.doc_tables.specs.declared.entry.SlotPlace.{SlotPlace}
 use Rattle.doc_tables.specs.declared.tables.Tables.TheInside.{Inside}
 use Rattle.doc_tables.specs.Held.{object_held, document_held, numbered_held, IsHeld}
 use Rattle.doc_tables.specs.Numbered.{Numbered, IsNumbered, at_number, slot_at, name_at, number_of, number_of_object}
-use Rattle.doc_tables.proofs.Finding.{find-map, find-at, find-place, find-passes, find-some, same-place, same_text-refl, same_text-told}
-use Rattle.doc_tables.proofs.HeldLemmas.{At, Named, Owned, Stands, at_number-held, member_below, name_at-place, object-found, object-held, slot_named, slots_in, slots-held, slot_at-stands}
+use Rattle.doc_tables.proofs.Finding.{find-map, find-place, find-passes, find-some, same-place, same_text-refl, same_text-told}
+use Rattle.doc_tables.proofs.HeldLemmas.{At, Named, Owned, at_number-held, member_below, name_at-place, object-found, object-held, slot_named, slots_in, slots-held, slot_at-stands}
 use Rattle.doc_tables.proofs.ResolveLemmas.{find-position}
 
 member-at : {A : Type 0} (xs : List A) (x : A) → IsIn x xs → (i : ℕ) × (slice_get xs i ≡ Some x)

@@ -1,30 +1,27 @@
 -- The entry of an object has the numbers of its slots, however the object was found.
-use Rattle.std.proofs.Common.{◌≡◌, ◌<◌, ℕ, zero, suc, Bool, true, false, cond, nat_eq, nat_lt, List, [], ◌∷◌, map, length, Option, Some, None, IsSome, slice_get, position, refl, sym, ap, subst, ◌∙◌, inl, inr, arith}
+use Rattle.std.proofs.Common.{◌≡◌, ℕ, Bool, true, false, cond, nat_eq, nat_lt, List, [], ◌∷◌, length, Option, Some, None, slice_get, position, refl, sym, ap, subst, ◌∙◌, arith}
 use Rattle.std.specs.Cmp.Lexicographic.{pointwise}
 use Rattle.std.specs.List.{find, position_or_len}
 use Rattle.std.specs.Map.{lookup}
 use Rattle.std.specs.Option.{option_and_then, option_map}
-use Rattle.std.proofs.lemmas.Bool.{false≢true}
 use Rattle.std.proofs.lemmas.List.Folds.{find_at}
 use Rattle.std.proofs.lemmas.Option.{slice_get-map, slice_get_past}
-use Rattle.fc_base.specs.Places.{Place}
 use Rattle.fc_base.specs.declared.ids.SlotId.{SlotId}
-use Rattle.object_paths.specs.declared.path.Owner.{Owner}
 use Rattle.object_paths.specs.declared.path.Owner.TheVariants.{Here, ByName, ByLabel}
 use Rattle.object_paths.specs.declared.path.Path.{Path}
 use Rattle.object_paths.specs.declared.slot_name.SlotName.{SlotName}
 use Rattle.object_paths.specs.declared.slot_name.SlotName.TheVariants.{Plain, Component, Marked}
-use Rattle.object_paths.specs.Slots.{Slot, same_text, same_slot_name}
+use Rattle.object_paths.specs.Slots.{same_text, same_slot_name}
 use Rattle.document_model.specs.Document.{Document, Object, object_labelled, object_named}
 use Rattle.document_model.specs.Resolution.{owner_of, slot_in, spelled_slot, resolve}
-use Rattle.document_model.specs.Slots.{Row, rows, row_in, slot_of}
+use Rattle.document_model.specs.Slots.{Row, row_in, slot_of}
 use Rattle.doc_tables.specs.declared.entry.ObjectEntry.{ObjectEntry}
 use Rattle.doc_tables.specs.declared.entry.PropertyEntry.{PropertyEntry}
 use Rattle.doc_tables.specs.declared.tables.Tables.TheInside.{Inside}
 use Rattle.doc_tables.specs.Accessors.{IsNumberOf}
 use Rattle.doc_tables.specs.Entries.{number_in, IsObjectEntry, IsEntryFor}
 use Rattle.doc_tables.specs.Held.{object_held, document_held, numbered_held, IsObjectHeld, IsHeld}
-use Rattle.doc_tables.specs.Numbered.{Numbered, name_at, object_at, slot_at}
+use Rattle.doc_tables.specs.Numbered.{Numbered, object_at, slot_at}
 use Rattle.doc_tables.proofs.Finding.{find-map, find-place, find-same, lookup-find, same_text-sym}
 use Rattle.doc_tables.proofs.HeldLemmas.{Named, Owned, row_held, rows-held, slot_named, slot_at-stands, object-found, all_at}
 

@@ -1,15 +1,13 @@
 -- What is held are VarSets, and its expressions are those of its slots.
-use Rattle.std.proofs.Common.{◌≡◌, ℕ, List, [], ◌∷◌, ◌++◌, map, Option, Some, None, refl, sym, ap, subst, ◌∙◌, append-nil}
+use Rattle.std.proofs.Common.{◌≡◌, List, [], ◌∷◌, ◌++◌, map, Some, refl, sym, ap, subst, ◌∙◌, append-nil}
 use Rattle.std.specs.List.{cons_option, filter_map, flat_map, AllByRecursion}
 use Rattle.std.specs.Option.{option_and_then}
 use Rattle.std.proofs.lemmas.List.Elements.{filter_map-append}
-use Rattle.object_paths.specs.Slots.{Slot}
-use Rattle.expr_grammar.specs.Tree.{Tree}
 use Rattle.document_model.specs.declared.content.Content.{Content}
 use Rattle.document_model.specs.declared.content.Content.TheVariants.{Own, Bound}
-use Rattle.document_model.specs.Counts.{contents, expressions, tree_of_content}
+use Rattle.document_model.specs.Counts.{contents, tree_of_content}
 use Rattle.document_model.specs.Document.{Document, Property}
-use Rattle.document_model.specs.Slots.{Rule, rule_of, rule_of_content, slots}
+use Rattle.document_model.specs.Slots.{rule_of, rule_of_content}
 use Rattle.doc_tables.specs.declared.tables.Tables.TheInside.{Inside}
 use Rattle.doc_tables.specs.Accessors.{tree_by}
 use Rattle.doc_tables.specs.Held.{property_held, object_held, document_held, numbered_held, IsPropertyHeld, IsObjectHeld, IsHeld}

@@ -1,4 +1,4 @@
-use Rattle.std.proofs.Common.{◌≡◌, ◌++◌, List, ℕ}
+use Rattle.std.proofs.Common.{◌≡◌, ◌++◌}
 use Rattle.std.specs.List.{flat_map}
 use Rattle.doc_tables.specs.Entries.{numbers_in}
 use Rattle.doc_tables.proofs.slots.numbers_in_order.Given as goal

@@ -1,4 +1,4 @@
-use Rattle.std.proofs.Common.{◌≡◌, ◌++◌, List, ℕ, map}
+use Rattle.std.proofs.Common.{◌≡◌, ◌++◌, map}
 use Rattle.doc_tables.proofs.HeldLemmas.{Named}
 use Rattle.doc_tables.proofs.slots.push_slots.Given as goal
 

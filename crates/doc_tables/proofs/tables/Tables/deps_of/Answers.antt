@@ -1,4 +1,4 @@
-use Rattle.std.proofs.Common.{◌≡◌, List, Option, sym, subst, ap, ◌∙◌}
+use Rattle.std.proofs.Common.{List, sym, subst, ap, ◌∙◌}
 use Rattle.std.proofs.lemmas.Result.{IfOk-weaker}
 use Rattle.fc_base.specs.declared.ids.SlotId.{SlotId}
 use Rattle.doc_tables.specs.Accessors.{AreNumbersOf, deps_at}

@@ -1,4 +1,4 @@
-use Rattle.std.proofs.Common.{◌≡◌, ℕ, List, Option, ap, subst, ◌∙◌, position}
+use Rattle.std.proofs.Common.{ℕ, List, ap, ◌∙◌, position}
 use Rattle.std.specs.Option.{option_copied}
 use Rattle.object_paths.specs.Slots.{same_text}
 use Rattle.doc_tables.proofs.HeldLemmas.{Owned}

@@ -1,7 +1,6 @@
-use Rattle.std.proofs.Common.{◌≡◌, List, Option, Some, sym, subst, ap, ◌∙◌, map}
+use Rattle.std.proofs.Common.{List, Option, Some, subst, ap, ◌∙◌, map}
 use Rattle.std.proofs.lemmas.Result.{IfOk-weaker}
 use Rattle.object_paths.specs.Slots.{Slot}
-use Rattle.document_model.specs.declared.content.Content.{Content}
 use Rattle.document_model.specs.Slots.{rule_of_content}
 use Rattle.expr_grammar.specs.ListedReferences.{reference_of}
 use Rattle.doc_tables.specs.Accessors.{AreReached}

@@ -1,4 +1,4 @@
-use Rattle.std.proofs.Common.{◌≡◌, map, take}
+use Rattle.std.proofs.Common.{map, take}
 use Rattle.expr_grammar.specs.ListedReferences.{reference_of}
 use Rattle.doc_tables.specs.Accessors.{AreReached}
 use Rattle.doc_tables.specs.Entries.{reached_by}
