@@ -16,12 +16,13 @@ use Rattle.document_model.specs.declared.kind.ObjectKind.TheVariants.{VarSet}
 use Rattle.document_model.specs.Dependencies.{deps, deps_by, cells_reached, slot_reached}
 use Rattle.document_model.specs.Document.{Document, Object, object_named}
 use Rattle.document_model.specs.Slots.{Rule, bound, rule_of, rule_of_content}
+use Rattle.doc_tables.specs.declared.entry.SlotPlace.{SlotPlace}
 use Rattle.doc_tables.specs.declared.tables.Tables.TheInside.{Inside}
 use Rattle.doc_tables.specs.Accessors.{AreNumbersOf, AreReached, deps_at, reached_at, rule_at, slots_reached, tree_by}
 use Rattle.doc_tables.specs.Entries.{present, reached_by}
 use Rattle.doc_tables.specs.Held.{object_held, document_held, numbered_held, IsHeld}
 use Rattle.doc_tables.specs.Numbered.{Numbered, name_at, slot_at}
-use Rattle.doc_tables.proofs.HeldLemmas.{At, at_number-held, object-found, rule-stands, slot_named}
+use Rattle.doc_tables.proofs.HeldLemmas.{At, Named, Owned, Stands, at_number-held, object-found, rule-stands, slot_named}
 use Rattle.doc_tables.proofs.VarSetLemmas.{cells-none}
 
 -- what is there of the numbers are the numbers of what is there of the slots
@@ -61,6 +62,15 @@ deps-of_rule : (d : Document) (s : Slot) (o : Object) (c : Content) → object_n
 unfolding deps
 deps-of_rule d s o c named rule = ap (λ (x : Option Object). option_map_or (λ (q : Object). deps_by d q (rule_of d s)) x []) named ∙ ap (deps_by d o) rule
 
+-- what a held slot depends on
+pub deps-of_property : (t : Inside) → IsHeld t → (p : SlotPlace) (o : Owned) (e : Named) → Stands t.objects.entries p o e
+    → deps (document_held t.objects.entries) (slot_named o e)
+    ≡ present (option_map_or (λ (x : Tree). map (slot_reached (document_held t.objects.entries) (object_held o)) (references x)) (tree_by (rule_of_content e.1.content)) [])
+deps-of_property t held p o e stands =
+    let d = document_held t.objects.entries in
+    deps-of_rule d (slot_named o e) (object_held o) e.1.content (object-found t held p.object o stands.object) (rule-stands t held p o e stands)
+    ∙ deps-by_content d (object_held o) refl e.1.content
+
 module _ (t : Inside) (held : IsHeld t) (n : ℕ) (a : At t n) where
   named : object_named (document_held t.objects.entries) a.owner.0 ≡ Some (object_held a.owner)
   named = object-found t held (a.place).object a.owner a.stands.object
@@ -80,8 +90,7 @@ module _ (t : Inside) (held : IsHeld t) (n : ℕ) (a : At t n) where
   deps-held =
       let d = document_held t.objects.entries in
       ap (λ (x : Option Slot). option_map_or (deps d) x []) a.found
-      ∙ deps-of_rule d (slot_named a.owner a.entry) (object_held a.owner) a.entry.1.content named ruled
-      ∙ deps-by_content d (object_held a.owner) refl a.entry.1.content
+      ∙ deps-of_property t held a.place a.owner a.entry a.stands
       ∙ ap present (sym reached)
 
 -- the numbers of the dependencies of what tables show

@@ -218,6 +218,12 @@ slots-from : (d : Document) (os : List Owned) → AllByRecursion IsObjectHeld os
 slots-from d [] h = refl
 slots-from d (o ∷ os) h = λ j. (ap (map (λ (r : Row). slot_of (object_held o) r.name)) (rows-held d o h.0) ∙ slots-of_rows o o.1.properties.entries) j ++ slots-from d os h.1 j
 
+-- the slots of the object at a place
+pub slots-of_object : (t : Inside) → IsHeld t → (i : ℕ) (o : Owned) → slice_get t.objects.entries i ≡ Some o → map (λ (r : Row). slot_of (object_held o) r.name) (rows (document_held t.objects.entries) (object_held o)) ≡ map (slot_named o) o.1.properties.entries
+slots-of_object t held i o at =
+    ap (map (λ (r : Row). slot_of (object_held o) r.name)) (rows-held (document_held t.objects.entries) o (all_at IsObjectHeld t.objects.entries i o held.objects at))
+    ∙ slots-of_rows o o.1.properties.entries
+
 -- the slots of the document, object by object
 pub slots-held : (t : Inside) → IsHeld t → slots (document_held t.objects.entries) ≡ flat_map slots_in t.objects.entries
 slots-held t held = slots-from (document_held t.objects.entries) t.objects.entries held.objects

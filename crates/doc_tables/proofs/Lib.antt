@@ -9,3 +9,4 @@ pub mod DependencyLemmas
 pub mod ListLemmas
 pub mod VarSetsHeld
 pub mod NumberedHeld
+pub mod CountLemmas

@@ -27,6 +27,12 @@ contents-held : (es : List Named) → flat_map (λ (p : Property). p.contents) (
 contents-held [] = refl
 contents-held (e ∷ es) = ap (λ (l : List Content). e.1.content ∷ l) (contents-held es)
 
+-- the contents of an object are those of its properties
+pub contents-own : (o : Owned) → contents (object_held o) ≡ map (λ (e : Named). e.1.content) o.1.properties.entries
+contents-own o =
+    let all = flat_map (λ (p : Property). p.contents) (map property_held o.1.properties.entries) in
+    append-nil (all ++ []) ∙ append-nil all ∙ contents-held o.1.properties.entries
+
 -- the expression of a rule is that of its content
 tree-of_rule : (c : Content) → tree_of_content c ≡ tree_by (rule_of_content c)
 tree-of_rule (Own v) = refl
