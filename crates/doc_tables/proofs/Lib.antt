@@ -10,3 +10,4 @@ pub mod ListLemmas
 pub mod VarSetsHeld
 pub mod NumberedHeld
 pub mod CountLemmas
+pub mod PlaceLemmas

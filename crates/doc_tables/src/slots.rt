@@ -1,10 +1,10 @@
-ghost use Rattle.std.specs.Prelude.{◌≡◌, ◌<◌, ◌^◌, ◌++◌, length, map, IfOk, IfSome, IsSome, IsTrue, OnOk, option_map, string_bytes};
+ghost use Rattle.std.specs.Prelude.{◌≡◌, ◌<◌, ◌^◌, ◌++◌, length, map, IfOk, IfSome, IsSome, IsTrue, OnOk, option_map, slice_get, string_bytes};
 ghost use Rattle.std.specs.List.{flat_map};
 ghost use Rattle.std.specs.Option.{option_and_then};
 ghost use Rattle.fc_base.specs.Texts.{is_text_value};
 ghost use Rattle.expr_grammar.specs.References.{reference_count};
 ghost use Rattle.document_model.specs.Slots.{slots, type_of};
-ghost use Rattle.doc_tables.specs.Accessors.{AreNumbersOf, IsRule, outside_path, own_at, rule_at, tree_at};
+ghost use Rattle.doc_tables.specs.Accessors.{AreNumbersOf, IsNumberOf, IsRule, outside_path, own_at, rule_at, tree_at};
 ghost use Rattle.doc_tables.specs.Entries.{IsEntryOf, numbers_in};
 ghost use Rattle.doc_tables.specs.Numbered.{name_at, slot_at};
 
@@ -44,6 +44,22 @@ fn numbers_in_order(
         push_slots(&object.properties, &mut all)?;
     }
     Ok(all)
+}
+
+/// The slot at a place of the list of all slots.
+fn number_at_place(objects: &IndexMap<Name, ObjectEntry>, place: usize) -> Option<SlotId>
+    ensures { result ≡ slice_get (flat_map numbers_in objects.now.entries) place }
+{
+    let mut left = place;
+    for (_, object) in objects {
+        let count = object.properties.len();
+        if left < count {
+            let (_, entry) = object.properties.get_index(left).unwrap();
+            return Some(entry.slot);
+        }
+        left -= count;
+    }
+    None
 }
 
 impl Tables {
@@ -149,5 +165,12 @@ impl Tables {
         let (name, _) = object.properties.get_index(place.property).unwrap();
         let path = slot_path(alloc, owner, &SlotName::Plain(name.copy(alloc)?))?;
         String::from_str(alloc, path.as_str())
+    }
+
+    /// The slot at a place of the document, from 0; none exactly past the last.
+    pub fn slot_at(&self, place: u32) -> Option<SlotId>
+        ensures { IsNumberOf self.now result (slice_get (slots self.now.document) place) }
+    {
+        number_at_place(&self.objects, place as usize)
     }
 }
