@@ -1,0 +1,7 @@
+//! The outcomes of all slots of a document, each worked out once, behind those that it depends on.
+#![tactic(auto)]
+
+mod behind;
+mod fitting;
+mod given;
+mod kept;
