@@ -1,2 +1,4 @@
 pub mod RuleLemmas
 pub mod ReadingLemmas
+pub mod KeptLemmas
+pub mod SumLemmas

@@ -2,6 +2,7 @@
 #![tactic(auto)]
 
 mod behind;
+mod evaluation;
 mod fitting;
 mod given;
 mod kept;
