@@ -46,7 +46,7 @@ some_value (Some x) h = (x, refl)
 pub some_there : {A : Type 0} (o : Option A) (x : A) → o ≡ Some x → IsSome o
 some_there o x e = ap is_some e
 
-same_or_not : (k n : ℕ) → (k ≡ n) ⊎ (k ≡ n → ⊥)
+pub same_or_not : (k n : ℕ) → (k ≡ n) ⊎ (k ≡ n → ⊥)
 same_or_not zero zero = inl refl
 same_or_not zero (suc n) = inr (λ e. absurd (omega arith))
 same_or_not (suc k) zero = inr (λ e. absurd (omega arith))

@@ -2,3 +2,4 @@ pub mod RuleLemmas
 pub mod ReadingLemmas
 pub mod KeptLemmas
 pub mod SumLemmas
+pub mod OrderLemmas

@@ -6,3 +6,4 @@ mod evaluation;
 mod fitting;
 mod given;
 mod kept;
+mod ordering;
