@@ -3,3 +3,4 @@ pub mod ReadingLemmas
 pub mod KeptLemmas
 pub mod SumLemmas
 pub mod OrderLemmas
+pub mod FullLemmas

@@ -3,7 +3,11 @@
 
 mod behind;
 mod evaluation;
+mod faults;
 mod fitting;
 mod given;
 mod kept;
 mod ordering;
+mod values;
+
+pub use values::{Report, Values};
