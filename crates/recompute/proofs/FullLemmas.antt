@@ -30,7 +30,7 @@ use Rattle.recompute.proofs.KeptLemmas.{some_value}
 use Rattle.recompute.proofs.OrderLemmas.{slot-of_document}
 use Rattle.recompute.proofs.ReadingLemmas.{kept_for-number}
 
-module _ (t : Numbered) (numbered : IsNumbered t) (holds : HoldsVarSets t.document) (values : List (Option Outcome)) where
+module _ (t : Numbered) (numbered : IsNumbered t) (values : List (Option Outcome)) where
   -- once the slots are worked out in order, the outcomes are full
   pub are-full : (order : List ℕ) (before : List (Option Outcome)) → OrdersNumbers t order → WorksOut t order before values → AreKeptFor order values → (m : Meanings) → AreFull m t values
   are-full order before ordered worked kept m n =
@@ -49,14 +49,14 @@ module _ (t : Numbered) (numbered : IsNumbered t) (holds : HoldsVarSets t.docume
             let same : full m t.document s ≡ kept_for t values s =
             evaluated-full t.document (filter_map (slot_at t) order) ordered.ordered.ordered ordered.ordered.all m (kept_for t before) (kept_for t values) (worked m) s here in
             let one : kept_at values n ≡ there.0 = ap (λ (o : Option Outcome). unwrap_or o (Err Range)) there.1 in
-            there.1 ∙ ap Some (sym one ∙ kept_for-number t numbered holds values n s e ∙ sym same)
+            there.1 ∙ ap Some (sym one ∙ kept_for-number t numbered values n s e ∙ sym same)
       ] refl
 
   -- what is kept for a slot of the document is its full outcome
   pub kept-full : (m : Meanings) → AreFull m t values → (s : Slot) → IsIn s (slots t.document) → kept_for t values s ≡ full m t.document s
   kept-full m full_kept s here =
       let n = number_of_slot t numbered s ((numbered.all_slots s).0 here) in
-      sym (kept_for-number t numbered holds values n.0 s n.1)
+      sym (kept_for-number t numbered values n.0 s n.1)
       ∙ ap (λ (o : Option Outcome). unwrap_or o (Err Range)) (full_kept n.0 ∙ ap (option_map (full m t.document)) n.1)
 
 -- two tests that agree on a list count the same
@@ -81,19 +81,19 @@ count_by-parallel f p q (x ∷ xs) (y ∷ ys) e same =
     ∙ (λ i. cond (same x y head i) 1 0 + count_by-parallel f p q xs ys tail same i)
     ∙ sym (sum_by-cons (λ z. cond (q z) 1 0) y ys)
 
-module _ (t : Numbered) (numbered : IsNumbered t) (holds : HoldsVarSets t.document) (values : List (Option Outcome)) where
+module _ (t : Numbered) (numbered : IsNumbered t) (values : List (Option Outcome)) where
   -- the faults are counted by numbers
   pub faults-listed :
       (ids : List SlotId) → AreNumbersOf t ids (slots t.document)
       → count_by (λ (id : SlotId). is_err (kept_at values id.0)) ids ≡ count_by (λ s. is_err (kept_for t values s)) (slots t.document)
   faults-listed ids listed =
       count_by-parallel (λ (id : SlotId). slot_at t id.0) (λ id. is_err (kept_at values id.0)) (λ s. is_err (kept_for t values s)) ids (slots t.document) listed
-      (λ id s e. ap is_err (kept_for-number t numbered holds values id.0 s e))
+      (λ id s e. ap is_err (kept_for-number t numbered values id.0 s e))
 
   pub faults-full : (m : Meanings) → AreFull m t values → count_by (λ s. is_err (kept_for t values s)) (slots t.document) ≡ faults_of m t.document
   faults-full m full_kept =
       count_by-agreed (λ s. is_err (kept_for t values s)) (λ s. is_err (full m t.document s)) (slots t.document)
-      (λ s here. ap is_err (kept-full t numbered holds values m full_kept s here))
+      (λ s here. ap is_err (kept-full t numbered values m full_kept s here))
 
 -- nothing is worked out for VarSets by features
 filter_map-none : {A B : Type 0} (f : A → Option B) (xs : List A) → ((x : A) → IsIn x xs → f x ≡ None) → filter_map f xs ≡ []

@@ -4,3 +4,4 @@ pub mod KeptLemmas
 pub mod SumLemmas
 pub mod OrderLemmas
 pub mod FullLemmas
+pub mod CountLemmas

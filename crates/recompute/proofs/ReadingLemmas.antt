@@ -32,11 +32,12 @@ at_slot-is : (w : Slot → Outcome) (q : Option Slot) → option_map_or w q (Err
 at_slot-is w None = refl
 at_slot-is w (Some s) = refl
 
-module _ (t : Numbered) (numbered : IsNumbered t) (holds : HoldsVarSets t.document) (values : List (Option Outcome)) where
+module _ (t : Numbered) (numbered : IsNumbered t) (values : List (Option Outcome)) where
   -- what is kept for a slot is kept for its number
   pub kept_for-number : (n : ℕ) (s : Slot) → slot_at t n ≡ Some s → kept_at values n ≡ kept_for t values s
   kept_for-number n s at = sym (ap (λ (q : Option ℕ). option_map_or (kept_at values) q (Err Range)) ((numbered.slot_numbers n s).0 at))
 
+module _ (t : Numbered) (numbered : IsNumbered t) (holds : HoldsVarSets t.document) (values : List (Option Outcome)) where
   in_cells-none : (o : Object) (w : Slot → Outcome) → IsIn o t.document.objects → (r : Option Reference) → [] ≡ in_cells t.document o w r
   in_cells-none o w here None = refl
   in_cells-none o w here (Some r) = sym (ap (map w) (no_cells-reached t.document holds o here r))
@@ -49,7 +50,7 @@ module _ (t : Numbered) (numbered : IsNumbered t) (holds : HoldsVarSets t.docume
       let here : IsIn o t.document.objects = from_find (λ (q : Object). same_text q.name s.object) t.document.objects o named in
       let same : (k : ℕ) → option_map_or (λ (id : SlotId). kept_at values id.0) (at_number ids k) (Err Range)
           ≡ at_slot (kept_for t values) (option_and_then (slot_reached t.document o) (slice_get (references e) k)) =
-      λ k. reading-by_number t (λ (id : SlotId). kept_at values id.0) (kept_for t values) (Err Range) (λ id u h. kept_for-number id.0 u h) n s o e ids at named tree reached k
+      λ k. reading-by_number t (λ (id : SlotId). kept_at values id.0) (kept_for t values) (Err Range) (λ id u h. kept_for-number t numbered values id.0 u h) n s o e ids at named tree reached k
         ∙ at_slot-is (kept_for t values) (option_and_then (slot_reached t.document o) (slice_get (references e) k)) in
       λ i. record { at = λ k. same k i; inside = λ k. in_cells-none o (kept_for t values) here (slice_get (references e) k) i }
 

@@ -50,6 +50,7 @@ fn worked_out<L>(alloc: Global, tables: &Tables, steps: &mut Steps<L>) -> Result
 {
     tables.is_numbered();
     tables.holds_var_sets();
+    tables.has_distinct_slots();
     let order = evaluation_order(alloc, tables)?;
     let mut outcomes = no_outcomes(alloc, tables.slot_limit())?;
     work_out(alloc, tables, &order, &mut outcomes, steps)?;
