@@ -1,8 +1,14 @@
 //! A document as tables: objects and properties by name, slots by number.
 #![tactic(auto)]
 
+mod counts;
+mod dependencies;
 mod entry;
+mod objects;
 mod rule;
+mod slots;
+mod tables;
 
 pub use entry::{ObjectEntry, PropertyEntry, SlotPlace};
 pub use rule::Rule;
+pub use tables::Tables;

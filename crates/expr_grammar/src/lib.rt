@@ -17,19 +17,22 @@ mod parser;
 mod parsing;
 mod paths;
 mod printing;
+mod reference;
 mod renaming;
 mod sign;
 mod stop;
-#[cfg(test)]
-mod tests;
 mod tightness;
 mod token;
 
 pub use expr::{Argument, Expr, Node, UnitPower};
 pub use fault::{ExprCause, ExprFault, ParseFault};
+pub use kinds::tokens;
+pub use lexing::{LexFault, lexemes};
+pub use limits::is_too_large;
 pub use operators::{AggregateOp, BinaryOp, CompareOp, FunctionOp};
 pub use parsing::parse;
 pub use printing::print;
+pub use reference::{Reference, references};
 pub use renaming::{NewReference, Renaming, map_paths};
 pub use sign::Sign;
 pub use token::{Lexeme, Placed, Token};
