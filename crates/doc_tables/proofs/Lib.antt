@@ -11,3 +11,5 @@ pub mod VarSetsHeld
 pub mod NumberedHeld
 pub mod CountLemmas
 pub mod PlaceLemmas
+pub mod ShownLemmas
+pub mod HeldBy

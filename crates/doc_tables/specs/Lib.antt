@@ -6,3 +6,4 @@ pub mod VarSets
 pub mod Held
 pub mod Entries
 pub mod Counted
+pub mod Shown
