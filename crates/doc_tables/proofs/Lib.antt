@@ -11,3 +11,4 @@ pub mod VarSetsHeld
 pub mod NumberedHeld
 pub mod CountLemmas
 pub mod PlaceLemmas
+pub mod DistinctHeld
