@@ -13,3 +13,4 @@ pub mod CountLemmas
 pub mod PlaceLemmas
 pub mod ShownLemmas
 pub mod HeldBy
+pub mod DistinctHeld
