@@ -13,3 +13,6 @@ pub mod CountLemmas
 pub mod PlaceLemmas
 pub mod ShownLemmas
 pub mod HeldBy
+pub mod ChangeLists
+pub mod ChangeLemmas
+pub mod ChangeHeld
