@@ -14,3 +14,6 @@ pub mod PlaceLemmas
 pub mod ShownLemmas
 pub mod HeldBy
 pub mod DistinctHeld
+pub mod ChangeLists
+pub mod ChangeLemmas
+pub mod ChangeHeld

@@ -13,9 +13,9 @@ returns-in_err-insert-clause-unchanged c =
     let old = c.index_mut-object.result.now in
     let objects = c.args.objects.now.entries in
     let same : map shown (set_value_at objects c.args.place (record { label = old.label; properties = c.insert.new.self })) ≡ map shown objects =
-        set-shown (λ s. s) objects c.args.place old (record { label = old.label; properties = c.insert.new.self }) c.index_mut-object.ensures.value
-        (λ k. ap (λ (l : List Named). (k, old.label, l)) c.in_err-insert.ensures.err)
-        ∙ change-none c.args.place (map shown objects)
+    set-shown (λ s. s) objects c.args.place old (record { label = old.label; properties = c.insert.new.self }) c.index_mut-object.ensures.value
+    (λ k. ap (λ (l : List Named). (k, old.label, l)) c.in_err-insert.ensures.err)
+    ∙ change-none c.args.place (map shown objects)
     in
     MatchResult-from_err c.from_residual.result _ _ c.from_residual.ensures.0 (λ y. same)
 
