@@ -1,4 +1,5 @@
 pub mod ReferenceLemmas
+pub mod ReferenceLimit
 pub mod NumberedLemmas
 pub mod FrontLemmas
 pub mod PathFrontLemmas

@@ -4,6 +4,7 @@ pub mod Nodes
 pub mod Levels
 pub mod TreeFalls
 pub mod References
+pub mod ListedReferences
 pub mod Spelled
 pub mod Numbered
 pub mod Signs
@@ -19,6 +20,7 @@ pub mod PathTokens
 pub mod Grammar
 pub mod Printed
 pub mod TreeTokens
+pub mod Large
 pub mod Parse
 pub mod ReadBack
 pub mod Brackets

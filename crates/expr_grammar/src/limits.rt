@@ -1,8 +1,13 @@
-ghost use Rattle.std.specs.Prelude.{◌≡◌, ◌≤◌};
+ghost use Rattle.std.specs.Prelude.{◌≡◌, ◌≤◌, IfOk};
+ghost use Rattle.expr_grammar.specs.Large.{is_too_large};
 ghost use Rattle.expr_grammar.specs.Limits.{excess, most_brackets, open_behind};
 
+use crate::expr::Expr;
+use crate::lexing::{LexFault, lexemes};
+use crate::printing::print;
 use crate::sign::Sign;
 use crate::token::{Lexeme, Placed};
+use std::alloc::{AllocError, Global};
 
 /// The most tokens of an expression.
 const MOST_TOKENS: usize = 512;
@@ -35,4 +40,17 @@ pub(crate) fn excess(lexemes: &[Placed]) -> Option<u64>
         }
     }
     None
+}
+
+/// Whether the printed form of an expression has more than 512 tokens, or more than 32 round
+/// brackets open at once.
+pub fn is_too_large(alloc: Global, tree: &Expr) -> Result<bool, AllocError>
+    ensures { IfOk result (λ b. b ≡ is_too_large tree.now) }
+{
+    let text = print(alloc, tree)?;
+    match lexemes(alloc, text.as_str()) {
+        Ok(lexemes) => Ok(excess(&lexemes).is_some()),
+        Err(LexFault::Place(_)) => Ok(false),
+        Err(LexFault::Memory(error)) => Err(error),
+    }
 }

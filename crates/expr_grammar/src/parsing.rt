@@ -1,5 +1,6 @@
-ghost use Rattle.std.specs.Prelude.{◌≡◌, IfOk};
+ghost use Rattle.std.specs.Prelude.{◌≡◌, ◌≤◌, IfOk};
 ghost use Rattle.expr_grammar.specs.Parse.{MeetsGrammar, MeetsParse};
+ghost use Rattle.expr_grammar.specs.References.{reference_count};
 ghost use Rattle.expr_grammar.specs.Spelled.{IsSpelled};
 ghost use Rattle.expr_grammar.specs.declared.fault.ParseFault.TheVariants as answer;
 
@@ -41,6 +42,7 @@ fn tree_of(alloc: Global, lexemes: &[Placed], end: u64) -> Result<Expr, ParseFau
 pub fn parse(alloc: Global, text: &str) -> Result<Expr, ParseFault>
     ensures exact { MeetsParse text.now result }
     ensures spelled { IfOk result IsSpelled }
+    ensures references { IfOk result (λ e. reference_count e ≤ 512) }
 {
     let lexemes = match lexemes(alloc, text) {
         Ok(lexemes) => lexemes,

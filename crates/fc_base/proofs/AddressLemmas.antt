@@ -291,18 +291,18 @@ Spells-parts text rest column row at_column at_rest at_row = record {
   spelling = spelled-parts text rest column row at_column at_rest at_row;
 }
 
-is_place-IsPlace : (p : Place) → is_place p ≡ true → IsPlace p
-is_place-IsPlace p h =
-    let outer = and_parts (nat_le 1 p.column && nat_le p.column 702 && nat_le 1 p.row) (nat_le p.row 16384) h in
-    let middle = and_parts (nat_le 1 p.column && nat_le p.column 702) (nat_le 1 p.row) outer.0 in
-    let inner = and_parts (nat_le 1 p.column) (nat_le p.column 702) middle.0 in
+is_place-IsPlace : (cell : Place) → is_place cell ≡ true → IsPlace cell
+is_place-IsPlace cell h =
+    let outer = and_parts (nat_le 1 cell.column && nat_le cell.column 702 && nat_le 1 cell.row) (nat_le cell.row 16384) h in
+    let middle = and_parts (nat_le 1 cell.column && nat_le cell.column 702) (nat_le 1 cell.row) outer.0 in
+    let inner = and_parts (nat_le 1 cell.column) (nat_le cell.column 702) middle.0 in
     record { column_low = leb-true _ _ inner.0; column_high = leb-true _ _ inner.1; row_low = leb-true _ _ middle.1; row_high = leb-true _ _ outer.1 }
 
-is_place-from : (p : Place) → IsPlace p → is_place p ≡ true
-is_place-from p place =
-    and_from (nat_le 1 p.column && nat_le p.column 702 && nat_le 1 p.row) _
-    (and_from (nat_le 1 p.column && nat_le p.column 702) _
-    (and_from (nat_le 1 p.column) _ (le-leb _ _ place.column_low) (le-leb _ _ place.column_high)) (le-leb _ _ place.row_low))
+is_place-from : (cell : Place) → IsPlace cell → is_place cell ≡ true
+is_place-from cell place =
+    and_from (nat_le 1 cell.column && nat_le cell.column 702 && nat_le 1 cell.row) _
+    (and_from (nat_le 1 cell.column && nat_le cell.column 702) _
+    (and_from (nat_le 1 cell.column) _ (le-leb _ _ place.column_low) (le-leb _ _ place.column_high)) (le-leb _ _ place.row_low))
     (le-leb _ _ place.row_high)
 
 Spells-test : (text : List ℕ) (p : Place) → (is_place p && bytes_eq (address_text p) text) ≡ true → Spells text p

@@ -22,7 +22,8 @@ pub record IsPlace (p : Place) : Type 0 where
 
 -- the same, as a test
 abbrev pub is_place : Place → Bool
-is_place p = nat_le 1 p.column && nat_le p.column 702 && nat_le 1 p.row && nat_le p.row 16384
+is_place place =
+    nat_le 1 place.column && nat_le place.column 702 && nat_le 1 place.row && nat_le place.row 16384
 
 -- a marked part has a `$` in front
 abbrev pub mark_text : Bool → List ℕ

@@ -1,3 +1,4 @@
 pub mod BlankLemmas
 pub mod ReadLemmas
 pub mod PathLemmas
+pub mod SlotPathLemmas

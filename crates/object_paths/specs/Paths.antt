@@ -14,6 +14,12 @@ IsSlotName (Plain n) = IsTrue (is_name n)
 IsSlotName (Component n c) = IsTrue (is_name n)
 IsSlotName (Marked p) = IsPlace p × IsTrue (p.fixed_column || p.fixed_row)
 
+-- a name, or a place of a sheet, marked or not
+abbrev pub HasParts : SlotName → Type 0
+HasParts (Plain n) = IsTrue (is_name n)
+HasParts (Component n c) = IsTrue (is_name n)
+HasParts (Marked p) = IsPlace p
+
 -- the object itself, a name or a label
 abbrev pub IsOwner : Owner → Type 0
 IsOwner Here = Unit {0}

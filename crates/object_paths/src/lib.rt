@@ -11,3 +11,4 @@ mod writing;
 pub use path::{Owner, Path};
 pub use reading::PathFault;
 pub use slot_name::{Component, SlotName};
+pub use writing::slot_path;

@@ -1,11 +1,13 @@
 ghost use Rattle.std.specs.Prelude.{◌≡◌, ◌++◌, IfOk, IsTrue, string_bytes, OnOk, Some};
-ghost use Rattle.object_paths.specs.Paths.{IsPath};
+ghost use Rattle.object_paths.specs.Paths.{HasParts, IsPath};
 ghost use Rattle.object_paths.specs.PathParts.{path_of};
 ghost use Rattle.object_paths.specs.PathTexts.{component_text, slot_text, is_word, needs_dot, owner_text, path_text};
+ghost use Rattle.object_paths.specs.declared.path.Owner.TheVariants.{ByName};
 
 use crate::path::{Owner, Path};
 use crate::slot_name::{Component, SlotName};
 use arrayvec::ArrayString;
+use fc_base::{Name, TextValue};
 use std::alloc::{AllocError, Global};
 use unit_signatures::unit_named;
 
@@ -62,8 +64,10 @@ fn push_owner(owner: &Owner, slot: &SlotName, out: &mut String) -> Result<(), Al
 }
 
 /// Writes a slot's own name.
+#[tactic(auto, using(crate::proofs::SlotPathLemmas::place_from_reading))]
 fn push_slot(slot: &SlotName, out: &mut String) -> Result<(), AllocError>
-    ensures { OnOk result (string_bytes out.new ≡ string_bytes out.old ++ slot_text slot.now) }
+    ensures text { OnOk result (string_bytes out.new ≡ string_bytes out.old ++ slot_text slot.now) }
+    ensures parts { HasParts slot.now }
 {
     match slot {
         SlotName::Plain(name) => out.push_str(name.as_str()),
@@ -80,6 +84,18 @@ fn push_slot(slot: &SlotName, out: &mut String) -> Result<(), AllocError>
     }
 }
 
+/// The path of a slot from outside its object, such as `V.a`, `Box.Placement.Base.x` or `S.A5`.
+#[tactic(auto, using(crate::proofs::SlotPathLemmas::slot_path_written, crate::proofs::SlotPathLemmas::slot_path_length, crate::proofs::SlotPathLemmas::slot_path_bytes))]
+pub fn slot_path(alloc: Global, object: &Name, slot: &SlotName) -> Result<TextValue, AllocError>
+    ensures { IfOk result (λ t. t ≡ path_text (record { owner = ByName object.now; slot = slot.now })) }
+{
+    let mut text = String::new(alloc);
+    text.push_str(object.as_str())?;
+    text.push_str(".")?;
+    push_slot(slot, &mut text)?;
+    Ok(TextValue::of(text))
+}
+
 impl Path {
     /// Writes the path in its one spelling: the owner's name, or its label between `<<` and `>>`,
     /// a dot and the slot, as in `Box.Width`, `<<My box>>.Placement.Base.x` and `Width`. A path to
@@ -93,5 +109,33 @@ impl Path {
         push_owner(&self.owner, &self.slot, &mut text)?;
         push_slot(&self.slot, &mut text)?;
         Ok(text)
+    }
+}
+
+#[cfg(test)]
+mod tests {
+    use super::*;
+    use fc_base::Address;
+    use std::test::Fail;
+
+    #[test]
+    fn writes_paths_from_outside(rt: HostRuntime) -> Result<(), Fail> {
+        for (text, want) in [
+            ("a", "V.a"),
+            (".m", "V.m"),
+            ("Placement.Base.x", "V.Placement.Base.x"),
+            ("Placement.Rotation.Turn", "V.Placement.Rotation.Turn"),
+            ("$A$5", "V.$A$5"),
+        ] {
+            let object = Name::read(rt.alloc(), "V")?;
+            let path = Path::read(rt.alloc(), text)?;
+            let outer = slot_path(rt.alloc(), &object, &path.slot)?;
+            assert_eq!(rt; outer.as_str(), want);
+        }
+        let sheet = Name::read(rt.alloc(), "S")?;
+        let cell = Address::read("A5").ok_or("no address")?;
+        let outer = slot_path(rt.alloc(), &sheet, &SlotName::Marked(cell))?;
+        assert_eq!(rt; outer.as_str(), "S.A5");
+        Ok(())
     }
 }

@@ -5,6 +5,7 @@ use Rattle.expr_grammar.specs.declared.fault.ParseFault.TheVariants as fault
 use Rattle.expr_grammar.specs.Parse.{MeetsParse}
 use Rattle.expr_grammar.specs.Spelled.{IsSpelled}
 use Rattle.expr_grammar.specs.Tree.{Tree}
+use Rattle.expr_grammar.proofs.ReferenceLimit.{answer_references}
 use Rattle.expr_grammar.proofs.SpelledTrees.{parsed_is_spelled}
 use Rattle.expr_grammar.proofs.parsing.parse.Goals as goal
 
@@ -18,3 +19,8 @@ pub returns-clause-spelled : goal.returns-clause-spelled
 returns-clause-spelled c =
     let meets : MeetsParse c.args.text.now c.tree_of.result = search rules in
     answer-spelled c.args.text.now c.tree_of.result meets
+
+pub returns-clause-references : goal.returns-clause-references
+returns-clause-references c =
+    let meets : MeetsParse c.args.text.now c.tree_of.result = search rules in
+    answer_references c.args.text.now c.tree_of.result meets

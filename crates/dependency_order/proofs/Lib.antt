@@ -1,0 +1,4 @@
+pub mod ListLemmas
+pub mod NodeLemmas
+pub mod WalkLemmas
+pub mod SpreadLemmas
