@@ -1,8 +1,6 @@
 -- One more member at the end of a list.
-use Rattle.std.proofs.Common.{◌≡◌, ◌⊎◌, inl, inr, ℕ, zero, suc, ◌<◌, ◌≤◌, List, [], ◌∷◌, ◌++◌, length, take, get_or, Option, None, Some, slice_get, refl, sym, ◌∙◌, subst, arith}
-use Rattle.std.proofs.lemmas.Bool.{cases_lt}
-use Rattle.std.proofs.lemmas.List.{take_all}
-use Rattle.std.proofs.lemmas.Option.{none-some, same_Some, slice_get-get_or}
+use Rattle.std.proofs.Common.{◌≡◌, ◌⊎◌, inl, inr, ℕ, zero, suc, ◌<◌, List, [], ◌∷◌, ◌++◌, length, take, get_or, None, Some, slice_get, refl, sym, arith}
+use Rattle.std.proofs.lemmas.Option.{none-some, same_Some}
 use Rattle.fc_base.specs.Graph.{IsIn, IsOrdered}
 
 pub IsIn-front : {S : Type 0} (xs : List S) (x y : S) → IsIn x xs → IsIn x (xs ++ y ∷ [])

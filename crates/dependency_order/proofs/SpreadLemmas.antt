@@ -1,35 +1,12 @@
 -- The steps of a search that spreads.
-use Rattle.std.proofs.Common.{◌≡◌, ◌⊎◌, inl, inr, ℕ, zero, suc, ◌+◌, ◌<◌, ◌≤◌, Bool, true, false, not, cond, List, [], ◌∷◌, ◌++◌, length, get_or, set, replicate, count_by, Vec, refl, sym, ◌∙◌, ap, subst, arith}
+use Rattle.std.proofs.Common.{◌≡◌, ◌⊎◌, inl, inr, ℕ, ◌+◌, ◌<◌, Bool, true, false, not, cond, List, [], ◌∷◌, ◌++◌, length, set, replicate, count_by, Vec, refl, sym, ◌∙◌, ap, subst, arith}
 use Rattle.std.proofs.lemmas.Bool.{cases_lt, cases_eq, false_from_ne_true}
 use Rattle.std.proofs.lemmas.List.{get_or-set_same, get_or-set_other, get_or_past, get_or-replicate, length-set, length-replicate, length_push}
 use Rattle.std.proofs.lemmas.List.Sums.{sum_by-set}
 use Rattle.fc_base.specs.Graph.{IsIn, Reaches, direct, onward}
 use Rattle.dependency_order.specs.Nodes.{inputs_of, AreNodes}
-use Rattle.dependency_order.specs.Spreads.{is_reached, nodes_left, TakesIn, IsSpreading}
+use Rattle.dependency_order.specs.Spreads.{is_reached, TakesIn, IsSpreading}
 use Rattle.dependency_order.proofs.ListLemmas.{IsIn-front, IsIn-last, IsIn-push}
-
-pub takes_none : (reached : List Bool) (pending : List ℕ) → TakesIn [] reached pending reached pending
-takes_none reached pending = record {
-  sized = refl;
-  kept = λ n e. e;
-  taken = λ n i. absurd i;
-  only_nodes = λ n e. inl e;
-  waits = λ n i. i;
-  only_new = λ n i. inl i;
-  left = refl;
-}
-
--- a node that is reached already
-pub takes_known : (reached : List Bool) (pending : List ℕ) (x : ℕ) → is_reached reached x ≡ true → TakesIn (x ∷ []) reached pending reached pending
-takes_known reached pending x known = record {
-  sized = refl;
-  kept = λ n e. e;
-  taken = λ n i. elim i [ inl e ↦ ap (λ (k : ℕ). is_reached reached k) e ∙ known | inr j ↦ absurd j ];
-  only_nodes = λ n e. inl e;
-  waits = λ n i. i;
-  only_new = λ n i. inl i;
-  left = refl;
-}
 
 -- a node that is reached now
 pub takes_new :

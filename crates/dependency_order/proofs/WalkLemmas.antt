@@ -1,12 +1,11 @@
 -- The steps of a walk.
-use Rattle.std.proofs.Common.{◌≡◌, ◌⊎◌, inl, inr, ℕ, zero, suc, ◌+◌, ◌-◌, ◌<◌, ◌≤◌, List, [], ◌∷◌, ◌++◌, length, take, get_or, set, replicate, Option, None, Some, slice_get, Vec, refl, sym, ◌∙◌, ap, subst, arith}
-use Rattle.std.specs.List.{sum_by}
+use Rattle.std.proofs.Common.{◌≡◌, inl, inr, ℕ, zero, suc, ◌+◌, ◌<◌, List, [], ◌∷◌, ◌++◌, length, take, set, None, Some, slice_get, Vec, refl, sym, ◌∙◌, ap, subst, arith}
 use Rattle.std.proofs.lemmas.Bool.{cases_lt, cases_eq}
-use Rattle.std.proofs.lemmas.List.{get_or-set_same, get_or-set_other, get_or_past, length-set, get_or-replicate, length-replicate}
+use Rattle.std.proofs.lemmas.List.{get_or-set_same, get_or-set_other, get_or_past, length-set}
 use Rattle.std.proofs.lemmas.List.Sums.{sum_by_push}
-use Rattle.fc_base.specs.Graph.{IsIn, Reaches, direct, onward, IsOrdered}
+use Rattle.fc_base.specs.Graph.{IsIn, Reaches, direct, onward}
 use Rattle.dependency_order.specs.Nodes.{inputs_of, AreNodes, HasCycle, OrdersAll}
-use Rattle.dependency_order.specs.Walks.{mark_of, LeadsOn, IsUnderWay, NoneIsRenewed, steps_of, new_steps, frame_steps, steps_left, GoesOn, Ends}
+use Rattle.dependency_order.specs.Walks.{mark_of, LeadsOn, IsUnderWay, NoneIsRenewed, steps_of, new_steps, frame_steps, GoesOn}
 use Rattle.dependency_order.specs.declared.walk.Mark.{Mark}
 use Rattle.dependency_order.specs.declared.walk.Mark.TheVariants.{New, Open, Done}
 use Rattle.dependency_order.specs.declared.walk.Frame.{Frame}

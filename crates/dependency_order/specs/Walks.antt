@@ -1,8 +1,6 @@
 -- A walk into the depth: each node is new, open or done, the open ones stand on the path that leads to
 -- the node at hand, and the done ones in the order so far.
-use Rattle.std.specs.Prelude.{◌≡◌, ℕ, zero, suc, ◌+◌, ◌-◌, ◌<◌, List, [], ◌∷◌, length, take, slice_index_or}
-use Rattle.std.specs.List.{sum_by}
-use Rattle.std.specs.Prelude.{Vec}
+use Rattle.std.specs.Prelude.{◌≡◌, ℕ, suc, ◌+◌, ◌-◌, ◌<◌, List, [], ◌∷◌, length, take, slice_index_or, sum_by, Vec}
 use Rattle.fc_base.specs.Graph.{IsIn, Reaches, IsOrdered}
 use Rattle.dependency_order.specs.Nodes.{inputs_of}
 use Rattle.dependency_order.specs.declared.walk.Mark.{Mark}
@@ -18,6 +16,8 @@ abbrev pub LeadsOn : (ℕ → List ℕ) → List Frame → Type 0
 LeadsOn g [] = Unit {0}
 LeadsOn g (f ∷ fs) = ((h : Frame) → IsIn h fs → Reaches g f.node h.node × (h.node ≡ f.node → ⊥)) × LeadsOn g fs
 
+-- The order so far is one, the marks say what stands in it and on the path, and what an open node counts
+-- as done is done.
 pub record IsUnderWay {A : Type 0} (inputs : List (Vec ℕ A)) (marks : List Mark) (path : List Frame) (order : List ℕ) : Type 0 where
   pub marked : length marks ≡ length inputs
   pub ordered : IsOrdered (inputs_of inputs) [] order
@@ -57,13 +57,13 @@ pub record GoesOn {A : Type 0} (inputs : List (Vec ℕ A)) (marks : List Mark) (
   pub started : NoneIsRenewed marks new_marks
   pub nearer : steps_left (inputs_of inputs) new_marks new_path < steps_left (inputs_of inputs) marks path
 
--- a walk to the end of its path: all that was started is done
+-- a walk to the end of its path, which leaves no node open
 pub record Ends {A : Type 0} (inputs : List (Vec ℕ A)) (marks : List Mark) (new_marks : List Mark) (new_path : List Frame) (new_order : List ℕ) : Type 0 where
   pub under_way : IsUnderWay inputs new_marks new_path new_order
   pub empty : new_path ≡ []
   pub started : NoneIsRenewed marks new_marks
 
--- a walk from a node to the end: that node and all that was done are done
+-- a walk from a node to the end, which leaves it done, and with it all that was done
 pub record Visits {A : Type 0} (inputs : List (Vec ℕ A)) (node : ℕ) (marks : List Mark) (new_marks : List Mark) (new_path : List Frame) (new_order : List ℕ) : Type 0 where
   pub under_way : IsUnderWay inputs new_marks new_path new_order
   pub empty : new_path ≡ []

@@ -19,8 +19,8 @@ pub struct Frame {
     done: usize,
 }
 
-#[tactic(auto, using(std::proofs::lemmas::Option::gets))]
 /// The input that a node goes on with, if there is one left.
+#[tactic(auto, using(std::proofs::lemmas::Option::gets))]
 fn next_input(inputs: &[Vec<u32>], frame: Frame) -> Option<u32>
     requires { frame.node < length inputs.now }
     ensures input { result ≡ slice_get (inputs_of inputs.now frame.node) frame.done }
@@ -81,8 +81,8 @@ impl Walk {
         Ok(())
     }
 
-    /// Takes the next step from the end of the path, which was taken off it. Whether an input closes a
-    /// cycle.
+    /// Takes the next step from the node at the end of the path, which was taken off it. Whether its
+    /// next input closes a cycle.
     fn resume(&mut self, inputs: &[Vec<u32>], frame: Frame) -> Result<bool, AllocError>
         requires nodes { AreNodes inputs.now }
         requires under_way { IsUnderWay inputs.now self.old.marks.items (self.old.path.items ++ frame ∷ []) self.old.order.items }

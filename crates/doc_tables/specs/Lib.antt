@@ -3,3 +3,5 @@ pub mod Accessors
 pub mod DependencyLists
 pub mod Primitives
 pub mod VarSets
+pub mod Held
+pub mod Entries

@@ -3,6 +3,9 @@
 
 mod entry;
 mod rule;
+mod slots;
+mod tables;
 
 pub use entry::{ObjectEntry, PropertyEntry, SlotPlace};
 pub use rule::Rule;
+pub use tables::Tables;

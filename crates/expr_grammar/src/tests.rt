@@ -1,6 +1,7 @@
 //! Texts, trees and printed forms across the crate, worked out by hand or taken from outside.
 
 use crate::fault::{ExprCause, ExprFault, ParseFault};
+use crate::limits::is_too_large;
 use crate::parsing::parse;
 use crate::printing::print;
 use crate::renaming::{Renaming, map_paths};
@@ -280,6 +281,21 @@ fn counts_tokens_and_brackets(rt: HostRuntime) -> Result<(), Fail> {
 }
 
 /// The deepest trees of 512 tokens and 32 brackets are read, printed and copied within the stack.
+#[test]
+fn measures_printed_forms(rt: HostRuntime) -> Result<(), Fail> {
+    let alloc = rt.alloc();
+    for (piece, count, end, want) in [
+        ("1+", 255, "1", false),
+        ("1mm^2^2+", 56, "1", false),
+        ("1mm^2^2+", 57, "1", true),
+    ] {
+        let text = repeated(alloc, piece, count, end)?;
+        let tree = parse(alloc, text.as_str())?;
+        assert_eq!(rt; is_too_large(alloc, &tree)?, want, "{piece} {count}");
+    }
+    Ok(())
+}
+
 #[test]
 fn reads_deep_trees(rt: HostRuntime) -> Result<(), Fail> {
     let minuses = repeated(rt.alloc(), "-", 511, "1")?;

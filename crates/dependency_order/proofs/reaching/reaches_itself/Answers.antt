@@ -1,6 +1,6 @@
-use Rattle.std.proofs.Common.{◌≡◌, ◌++◌, ◌∷◌, [], ◌<◌, ℕ, List, Bool, length, true, false, refl, sym, ◌∙◌, subst, arith}
+use Rattle.std.proofs.Common.{◌≡◌, [], ℕ, List, true, false, refl, sym, subst, arith}
 use Rattle.std.proofs.lemmas.Grind.{common_steps}
-use Rattle.fc_base.specs.Graph.{IsIn, Reaches}
+use Rattle.fc_base.specs.Graph.{IsIn}
 use Rattle.dependency_order.specs.Nodes.{inputs_of}
 use Rattle.dependency_order.specs.Spreads.{IsSpreading}
 use Rattle.dependency_order.proofs.ListLemmas.{IsIn-last}

@@ -1,4 +1,4 @@
-use Rattle.std.proofs.Common.{◌<◌, ℕ, List, take, get_or, inl, inr, sym, subst, arith}
+use Rattle.std.proofs.Common.{ℕ, List, take, get_or, inl, inr, sym, subst, arith}
 use Rattle.std.proofs.lemmas.List.{take_more, take_all}
 use Rattle.fc_base.specs.Graph.{IsIn}
 use Rattle.dependency_order.proofs.ListLemmas.{IsIn-push}

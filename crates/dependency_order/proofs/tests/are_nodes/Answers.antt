@@ -1,4 +1,4 @@
-use Rattle.std.proofs.Common.{◌≡◌, ℕ, ◌<◌, ◌≤◌, List, [], length, refl, inl, inr, sym, subst, arith}
+use Rattle.std.proofs.Common.{ℕ, List, length, refl, inl, inr, sym, subst, arith}
 use Rattle.std.proofs.lemmas.Bool.{cases_lt, cases_eq}
 use Rattle.fc_base.specs.Graph.{IsIn}
 use Rattle.dependency_order.specs.Nodes.{inputs_of}

@@ -1,4 +1,4 @@
-use Rattle.std.proofs.Common.{ℕ, take}
+use Rattle.std.proofs.Common.{take}
 use Rattle.fc_base.specs.Graph.{IsIn}
 use Rattle.dependency_order.specs.Spreads.{TakesIn}
 use Rattle.dependency_order.proofs.reaching.Spread.reach_all.Given as goal

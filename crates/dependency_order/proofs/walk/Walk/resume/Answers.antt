@@ -1,6 +1,4 @@
-use Rattle.std.proofs.Common.{◌≡◌, ◌++◌, ◌∷◌, [], ◌<◌, length, slice_get, Some, ℕ, ◌+◌, refl, sym, arith}
-use Rattle.dependency_order.specs.Nodes.{inputs_of}
-use Rattle.dependency_order.specs.Walks.{mark_of}
+use Rattle.std.proofs.Common.{◌<◌, length, ◌+◌, refl, sym, arith}
 use Rattle.dependency_order.proofs.WalkLemmas.{f_within, input_here, goes_back, goes_in, goes_past, goes_round}
 use Rattle.dependency_order.proofs.walk.Walk.resume.Goals as goal
 
