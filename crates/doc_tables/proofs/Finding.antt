@@ -1,5 +1,6 @@
 -- What a search finds in a list whose keys are distinct texts, and in a mapped list.
-use Rattle.std.proofs.Common.{◌≡◌, ℕ, zero, suc, Bool, true, false, cond, nat_eq, List, [], ◌∷◌, map, Option, Some, None, slice_get, refl, sym, ap, subst, ◌∙◌}
+use Rattle.std.proofs.Common.{◌≡◌, ℕ, zero, suc, Bool, true, false, cond, nat_eq, List, [], ◌∷◌, map, Some, None, slice_get, refl, sym, ap, subst, ◌∙◌}
+use Rattle.std.proofs.lemmas.Bool.{false≢true}
 use Rattle.std.specs.Cmp.Lexicographic.{pointwise, nat_list_eq_equiv, same_text as texts_tell}
 use Rattle.std.specs.List.{find, IsDistinct, AllByRecursion}
 use Rattle.std.specs.Map.{lookup, lookup_key}
@@ -25,7 +26,7 @@ find-map f p (x ∷ xs) =
       | false ↦ find-map f p xs
     ]
 
-apart_at : {A : Type 0} (key : A → List ℕ) (a : List ℕ) (xs : List A) (i : ℕ) (x : A) → AllByRecursion (λ b. pointwise nat_eq a b ≡ false) (map key xs) → slice_get xs i ≡ Some x → same_text a (key x) ≡ false
+pub apart_at : {A : Type 0} (key : A → List ℕ) (a : List ℕ) (xs : List A) (i : ℕ) (x : A) → AllByRecursion (λ b. pointwise nat_eq a b ≡ false) (map key xs) → slice_get xs i ≡ Some x → same_text a (key x) ≡ false
 apart_at key a [] i x h at = absurd (cc)
 apart_at {A} key a (y ∷ ys) zero x h at = subst (λ (z : A). same_text a (key z) ≡ false) (let e : y ≡ x = cc in e) h.0
 apart_at key a (y ∷ ys) (suc i) x h at = apart_at key a ys i x h.1 at
@@ -80,3 +81,31 @@ lookup_key-find {K} {X} t (e ∷ es) =
       | true ↦ refl
       | false ↦ lookup_key-find t es
     ]
+
+-- keys that are the same stand at one place
+pub same-place : {A : Type 0} (key : A → List ℕ) (xs : List A) (i j : ℕ) (x y : A) → IsDistinct (pointwise nat_eq) (map key xs) → slice_get xs i ≡ Some x → slice_get xs j ≡ Some y → key x ≡ key y → i ≡ j
+same-place key [] i j x y h a b e = absurd (cc)
+same-place key (z ∷ zs) zero zero x y h a b e = refl
+same-place {A} key (z ∷ zs) zero (suc j) x y h a b e =
+    let same : key z ≡ key y = ap key (let one : z ≡ x = cc in one) ∙ e in
+    let apart : same_text (key z) (key y) ≡ false = apart_at key (key z) zs j y (IsDistinct-head (pointwise nat_eq) (key z) (map key zs) h) b in
+    absurd (false≢true (sym apart ∙ ap (same_text (key z)) (sym same) ∙ same_text-refl (key z)))
+same-place {A} key (z ∷ zs) (suc i) zero x y h a b e =
+    let same : key z ≡ key x = ap key (let one : z ≡ y = cc in one) ∙ sym e in
+    let apart : same_text (key z) (key x) ≡ false = apart_at key (key z) zs i x (IsDistinct-head (pointwise nat_eq) (key z) (map key zs) h) a in
+    absurd (false≢true (sym apart ∙ ap (same_text (key z)) (sym same) ∙ same_text-refl (key z)))
+same-place key (z ∷ zs) (suc i) (suc j) x y h a b e = ap suc (same-place key zs i j x y (IsDistinct-tail (pointwise nat_eq) (key z) (map key zs) h) a b e)
+
+-- where one passes, one is found
+pub find-some : {A : Type 0} (p : A → Bool) (xs : List A) (i : ℕ) (x : A) → slice_get xs i ≡ Some x → p x ≡ true → find p xs ≡ None → ⊥
+find-some p [] i x at h none = absurd (cc)
+find-some {A} p (y ∷ ys) zero x at h none =
+    elim (p y) as (λ b. p y ≡ b → cond b (Some y) (find p ys) ≡ None → ⊥) [
+      | true ↦ λ e g. absurd (cc)
+      | false ↦ λ e g. false≢true (sym e ∙ ap p (let one : y ≡ x = cc in one) ∙ h)
+    ] refl none
+find-some {A} p (y ∷ ys) (suc i) x at h none =
+    elim (p y) as (λ b. cond b (Some y) (find p ys) ≡ None → ⊥) [
+      | true ↦ λ g. absurd (cc)
+      | false ↦ λ g. find-some p ys i x at h g
+    ] none

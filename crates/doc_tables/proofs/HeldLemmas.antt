@@ -1,28 +1,26 @@
 -- What is held is the document: its rows are the properties, and its slots are found by name.
-use Rattle.std.proofs.Common.{◌≡◌, ◌≢◌, ◌<◌, ℕ, zero, suc, Bool, true, false, nat_eq, List, [], ◌∷◌, ◌++◌, map, Option, Some, None, IsSome, slice_get, get_or, refl, sym, ap, subst, ◌∙◌}
-use Rattle.std.specs.Cmp.Lexicographic.{pointwise}
-use Rattle.std.specs.List.{find, flat_map, AllByRecursion}
+use Rattle.std.proofs.Common.{◌≡◌, ◌≢◌, ◌<◌, ℕ, zero, suc, List, [], ◌∷◌, ◌++◌, map, length, Option, Some, None, IsSome, is_some, slice_get, get_or, refl, sym, ap, subst, ◌∙◌, arith}
+use Rattle.std.specs.List.{flat_map, AllByRecursion}
 use Rattle.std.specs.Option.{option_and_then, option_map}
 use Rattle.std.proofs.lemmas.Bool.{false≢true}
+use Rattle.std.proofs.lemmas.List.{map-append}
 use Rattle.std.proofs.lemmas.Option.{slice_get-map, get_or_from_slice_get}
 use Rattle.fc_base.specs.declared.ids.SlotId.{SlotId}
-use Rattle.object_paths.specs.declared.slot_name.SlotName.{SlotName}
-use Rattle.object_paths.specs.declared.slot_name.SlotName.TheVariants.{Plain, Component, Marked}
+use Rattle.object_paths.specs.declared.slot_name.SlotName.TheVariants.{Plain}
 use Rattle.object_paths.specs.Slots.{Slot, same_text, same_slot_name}
 use Rattle.property_types.specs.declared.prop_type.PropType.{PropType}
 use Rattle.property_types.specs.declared.prop_type.PropType.TheVariants as prop
-use Rattle.document_model.specs.declared.content.Content.{Content}
-use Rattle.document_model.specs.Document.{Document, Object, Property, object_named}
-use Rattle.document_model.specs.Slots.{Row, Rule, rule_of_content, rows_in_order, row_with, rows, row_in, row_of, rule_of, type_of, slot_of, slots}
+use Rattle.document_model.specs.Document.{Document, Object, object_named}
+use Rattle.document_model.specs.Slots.{Row, rule_of_content, rows_in_order, row_with, rows, row_in, row_of, rule_of, type_of, slot_of, slots}
 use Rattle.document_model.specs.TypedSlots.{property_slots}
 use Rattle.doc_tables.specs.declared.entry.ObjectEntry.{ObjectEntry}
 use Rattle.doc_tables.specs.declared.entry.PropertyEntry.{PropertyEntry}
 use Rattle.doc_tables.specs.declared.entry.SlotPlace.{SlotPlace}
 use Rattle.doc_tables.specs.declared.tables.Tables.TheInside.{Inside}
-use Rattle.doc_tables.specs.Accessors.{rule_at}
-use Rattle.doc_tables.specs.Entries.{IsEntryOf}
+use Rattle.doc_tables.specs.Accessors.{AreNumbersOf}
+use Rattle.doc_tables.specs.Entries.{IsEntryOf, numbers_in}
 use Rattle.doc_tables.specs.Held.{property_held, object_held, document_held, entry_at, slot_of_entry, slot_held, number_held, numbered_held, IsPropertyHeld, IsObjectHeld, IsHeld}
-use Rattle.doc_tables.specs.Numbered.{Numbered, at_number, slot_at}
+use Rattle.doc_tables.specs.Numbered.{Numbered, name_at, slot_at}
 use Rattle.doc_tables.proofs.Finding.{find-map, find-at}
 
 -- a property with its name, and an object with its name
@@ -203,4 +201,93 @@ entry-read v t held is n o e used r =
       type = ap (option_and_then (type_of d)) s.1 ∙ type-stands t held r.place o e s.0;
       rule = ap (option_and_then (rule_of d)) s.1 ∙ rule-stands t held r.place o e s.0;
       references = (property-held t held r.place o e s.0).references;
+      owner =
+          ap (λ (x : Option Slot). is_some (option_and_then (λ (q : Slot). object_named d q.object) x)) s.1
+          ∙ ap is_some (object-found t held (r.place).object o s.0.object);
     })
+
+-- the slots of an object
+abbrev pub slots_in : Owned → List Slot
+slots_in o = map (slot_named o) o.1.properties.entries
+
+slots-of_rows : (o : Owned) (es : List Named) → map (λ (r : Row). slot_of (object_held o) r.name) (map row_held es) ≡ map (slot_named o) es
+slots-of_rows o [] = refl
+slots-of_rows o (e ∷ es) = ap (λ (l : List Slot). slot_named o e ∷ l) (slots-of_rows o es)
+
+slots-from : (d : Document) (os : List Owned) → AllByRecursion IsObjectHeld os → flat_map (λ q. map (λ (r : Row). slot_of q r.name) (rows d q)) (map object_held os) ≡ flat_map slots_in os
+slots-from d [] h = refl
+slots-from d (o ∷ os) h = λ j. (ap (map (λ (r : Row). slot_of (object_held o) r.name)) (rows-held d o h.0) ∙ slots-of_rows o o.1.properties.entries) j ++ slots-from d os h.1 j
+
+-- the slots of the object at a place
+pub slots-of_object : (t : Inside) → IsHeld t → (i : ℕ) (o : Owned) → slice_get t.objects.entries i ≡ Some o → map (λ (r : Row). slot_of (object_held o) r.name) (rows (document_held t.objects.entries) (object_held o)) ≡ map (slot_named o) o.1.properties.entries
+slots-of_object t held i o at =
+    ap (map (λ (r : Row). slot_of (object_held o) r.name)) (rows-held (document_held t.objects.entries) o (all_at IsObjectHeld t.objects.entries i o held.objects at))
+    ∙ slots-of_rows o o.1.properties.entries
+
+-- the slots of the document, object by object
+pub slots-held : (t : Inside) → IsHeld t → slots (document_held t.objects.entries) ≡ flat_map slots_in t.objects.entries
+slots-held t held = slots-from (document_held t.objects.entries) t.objects.entries held.objects
+
+-- what holds at each place holds of each member
+pub all_from_places : {A : Type 0} (P : A → Type 0) (xs : List A) → ((i : ℕ) (x : A) → slice_get xs i ≡ Some x → P x) → AllByRecursion P xs
+all_from_places P [] h = tt
+all_from_places P (x ∷ xs) h = (h 0 x refl, all_from_places P xs (λ i y at. h (suc i) y at))
+
+-- each property's number is that of its slot
+abbrev pub IsNumberedIn : Numbered → Owned → Type 0
+IsNumberedIn v o = AllByRecursion (λ (e : Named). slot_at v e.1.slot.0 ≡ Some (slot_named o e)) o.1.properties.entries
+
+pub numbered-in : (t : Inside) → IsHeld t → AllByRecursion (IsNumberedIn (numbered_held t)) t.objects.entries
+numbered-in t held =
+    all_from_places (IsNumberedIn (numbered_held t)) t.objects.entries (λ i o at.
+    all_from_places (λ (e : Named). slot_at (numbered_held t) e.1.slot.0 ≡ Some (slot_named o e)) o.1.properties.entries (λ j e there.
+    slot_at-stands t held (record { object = i; property = j }) o e (record { object = at; property = there })))
+
+numbers-of_object : (v : Numbered) (o : Owned) (es : List Named) → AllByRecursion (λ (e : Named). slot_at v e.1.slot.0 ≡ Some (slot_named o e)) es → map (λ (id : SlotId). slot_at v id.0) (map (λ (e : Named). e.1.slot) es) ≡ map Some (map (slot_named o) es)
+numbers-of_object v o [] h = refl
+numbers-of_object v o (e ∷ es) h = λ j. h.0 j ∷ numbers-of_object v o es h.1 j
+
+numbers-from : (v : Numbered) (os : List Owned) → AllByRecursion (IsNumberedIn v) os → map (λ (id : SlotId). slot_at v id.0) (flat_map numbers_in os) ≡ map Some (flat_map slots_in os)
+numbers-from v [] h = refl
+numbers-from v (o ∷ os) h =
+    map-append (λ (id : SlotId). slot_at v id.0) (numbers_in o) (flat_map numbers_in os)
+    ∙ (λ j. numbers-of_object v o o.1.properties.entries h.0 j ++ numbers-from v os h.1 j)
+    ∙ sym (map-append Some (slots_in o) (flat_map slots_in os))
+
+-- the numbers in the order of the document are those of its slots
+pub numbers-held : (v : Numbered) (t : Inside) → IsHeld t → numbered_held t ≡ v → AreNumbersOf v (flat_map numbers_in t.objects.entries) (slots v.document)
+numbers-held v t held is =
+    subst (λ (w : Numbered). AreNumbersOf w (flat_map numbers_in t.objects.entries) (slots w.document)) is
+    (numbers-from (numbered_held t) t.objects.entries (numbered-in t held) ∙ ap (map Some) (sym (slots-held t held)))
+
+-- the name of the object at a place
+pub name_at-place : (t : Inside) (i : ℕ) (o : Owned) → slice_get t.objects.entries i ≡ Some o → name_at (numbered_held t) i ≡ Some o.0
+name_at-place t i o at =
+    ap (option_and_then (λ (x : Option (List ℕ)). x)) (slice_get-map (λ (x : Owned). Some x.0) t.objects.entries i ∙ ap (option_map (λ (x : Owned). Some x.0)) at)
+
+pub owner-read : (v : Numbered) (t : Inside) → IsHeld t → numbered_held t ≡ v → (n : ℕ) (o : Owned) (e : Named) → IsSome (slot_at v n) → (r : Reads t n o e) → name_at v (r.place).object ≡ option_map (λ (s : Slot). s.object) (slot_at v n)
+owner-read v t held is n o e used r =
+    let s = reads-stands t held n o e (subst (λ (w : Numbered). IsSome (slot_at w n)) (sym is) used) r in
+    subst (λ (w : Numbered). name_at w (r.place).object ≡ option_map (λ (x : Slot). x.object) (slot_at w n)) is
+    (name_at-place t (r.place).object o s.0.object ∙ sym (ap (option_map (λ (x : Slot). x.object)) s.1))
+
+-- below the length there is a member
+pub member_below : {A : Type 0} (xs : List A) (n : ℕ) → n < length xs → (x : A) × (slice_get xs n ≡ Some x)
+member_below [] n h = absurd (omega arith)
+member_below (x ∷ xs) zero h = (x, refl)
+member_below (x ∷ xs) (suc n) h = member_below xs n (omega arith)
+
+some_number : (x : Option (List ℕ × Named)) (n : ℕ) → option_map (λ (id : SlotId). id.0) (option_map (λ (e : List ℕ × Named). e.1.1.slot) x) ≡ Some n → IsSome (option_map slot_of_entry x)
+some_number None n h = absurd (cc)
+some_number (Some e) n h = refl
+
+used-held : (t : Inside) → IsHeld t → (n : ℕ) → n < length t.places.items → IsSome (slot_at (numbered_held t) n)
+used-held t held n below =
+    let m = member_below t.places.items n below in
+    ap (λ (x : Option (Option Slot)). is_some (option_and_then (λ (y : Option Slot). y) x))
+    (slice_get-map (slot_held t.objects.entries) t.places.items n ∙ ap (option_map (slot_held t.objects.entries)) m.1)
+    ∙ some_number (entry_at t.objects.entries m.0) n (held.back m.0 n m.1)
+
+-- each number below the limit is in use
+pub used-read : (v : Numbered) (t : Inside) → IsHeld t → numbered_held t ≡ v → (n : ℕ) → n < length t.places.items → IsSome (slot_at v n)
+used-read v t held is n below = subst (λ (w : Numbered). IsSome (slot_at w n)) is (used-held t held n below)

@@ -4,3 +4,10 @@ pub mod ReadingLemmas
 pub mod VarSetLemmas
 pub mod Finding
 pub mod HeldLemmas
+pub mod ResolveLemmas
+pub mod DependencyLemmas
+pub mod ListLemmas
+pub mod VarSetsHeld
+pub mod NumberedHeld
+pub mod CountLemmas
+pub mod PlaceLemmas

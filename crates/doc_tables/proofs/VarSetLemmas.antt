@@ -57,7 +57,7 @@ module _ (area : Block) where
       rows-unmarked (property_slots p.name p.prop) p.contents r (property-unmarked p.name p.prop) m.2
 
 -- a VarSet has no cells, so none is reached
-cells-none : (d : Document) (o : Object) → o.kind ≡ VarSet → (x : Reference) → cells_reached d o x ≡ []
+pub cells-none : (d : Document) (o : Object) → o.kind ≡ VarSet → (x : Reference) → cells_reached d o x ≡ []
 cells-none d o kind (to_path p) = refl
 cells-none d o kind (to_area area) =
     ap (λ (all : List Row). map (λ (r : Row). slot_of o r.name) (filter (λ (r : Row). is_cell_within area r.name) all))

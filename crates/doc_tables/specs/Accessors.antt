@@ -1,15 +1,13 @@
 -- What is asked of numbered documents.
 use Rattle.std.specs.Prelude.{◌≡◌, ℕ, List, [], map, Option, Some, None}
-use Rattle.std.specs.List.{flat_map}
 use Rattle.std.specs.Option.{option_and_then, option_map, option_map_or}
 use Rattle.fc_base.specs.declared.ids.ObjectId.{ObjectId}
 use Rattle.fc_base.specs.declared.ids.SlotId.{SlotId}
 use Rattle.object_paths.specs.declared.path.Owner.TheVariants.{ByName}
 use Rattle.object_paths.specs.PathTexts.{path_text}
-use Rattle.object_paths.specs.declared.slot_name.Component as c
 use Rattle.object_paths.specs.Slots.{Slot}
 use Rattle.property_types.specs.declared.value.Value.{Value}
-use Rattle.expr_grammar.specs.References.{Reference, references}
+use Rattle.expr_grammar.specs.References.{references}
 use Rattle.expr_grammar.specs.Tree.{Tree}
 use Rattle.document_model.specs.Document.{Document, Object, object_named}
 use Rattle.document_model.specs.Slots.{Rule, own, bound, inherit, global, output, rule_of}

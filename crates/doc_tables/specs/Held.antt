@@ -1,5 +1,5 @@
 -- The document that tables hold, and how they hold it.
-use Rattle.std.specs.Prelude.{◌≡◌, ◌≢◌, ◌^◌, ◌<◌, ℕ, List, [], ◌∷◌, map, length, slice_get, codes, nat_eq, Option, Some, None}
+use Rattle.std.specs.Prelude.{◌≡◌, ◌≢◌, ◌^◌, ◌<◌, ℕ, List, [], ◌∷◌, map, length, sum_by, slice_get, nat_eq, Option, Some}
 use Rattle.std.specs.Cmp.Lexicographic.{pointwise}
 use Rattle.std.specs.List.{AllByRecursion}
 use Rattle.std.specs.Option.{option_and_then, option_map}
@@ -72,5 +72,6 @@ pub record IsHeld (t : Inside) : Type 0 where
   pub objects : AllByRecursion IsObjectHeld t.objects.entries
   pub there : (p : SlotPlace) (n : SlotId) → number_held t.objects.entries p ≡ Some n → slice_get t.places.items n.0 ≡ Some p
   pub back : (p : SlotPlace) (n : ℕ) → slice_get t.places.items n ≡ Some p → option_map (λ (id : SlotId). id.0) (number_held t.objects.entries p) ≡ Some n
+  pub all : sum_by (λ (o : List ℕ × ObjectEntry). length o.1.properties.entries) t.objects.entries ≡ length t.places.items
   pub few_objects : length t.objects.entries < 2 ^ 32
   pub few_slots : length t.places.items < 2 ^ 32

@@ -5,3 +5,4 @@ pub mod Primitives
 pub mod VarSets
 pub mod Held
 pub mod Entries
+pub mod Counted

@@ -6,7 +6,7 @@ use Rattle.object_paths.specs.declared.slot_name.SlotName.TheVariants.{Plain}
 use Rattle.object_paths.specs.Slots.{Slot, same_text}
 use Rattle.property_types.specs.declared.prop_type.PropType.{PropType}
 use Rattle.document_model.specs.declared.content.Content.{Content}
-use Rattle.document_model.specs.Document.{Document, Object, Property}
+use Rattle.document_model.specs.Document.{Object, Property}
 use Rattle.document_model.specs.Edited.{new_property, with_property, with_content}
 use Rattle.doc_tables.specs.Numbered.{Numbered, name_at, object_at, slot_at}
 

@@ -1,7 +1,10 @@
 //! A document as tables: objects and properties by name, slots by number.
 #![tactic(auto)]
 
+mod counts;
+mod dependencies;
 mod entry;
+mod objects;
 mod rule;
 mod slots;
 mod tables;

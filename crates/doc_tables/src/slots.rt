@@ -1,21 +1,70 @@
-ghost use Rattle.std.specs.Prelude.{◌≡◌, ◌<◌, ◌^◌, length, IfSome, IsSome, option_map};
+ghost use Rattle.std.specs.Prelude.{◌≡◌, ◌<◌, ◌^◌, ◌++◌, length, map, IfOk, IfSome, IsSome, IsTrue, OnOk, option_map, slice_get, string_bytes};
+ghost use Rattle.std.specs.List.{flat_map};
 ghost use Rattle.std.specs.Option.{option_and_then};
+ghost use Rattle.fc_base.specs.Texts.{is_text_value};
 ghost use Rattle.expr_grammar.specs.References.{reference_count};
-ghost use Rattle.document_model.specs.Slots.{type_of};
-ghost use Rattle.doc_tables.specs.Accessors.{own_at, tree_at};
-ghost use Rattle.doc_tables.specs.Entries.{IsEntryOf};
-ghost use Rattle.doc_tables.specs.Numbered.{slot_at};
+ghost use Rattle.document_model.specs.Slots.{slots, type_of};
+ghost use Rattle.doc_tables.specs.Accessors.{AreNumbersOf, IsNumberOf, IsRule, outside_path, own_at, rule_at, tree_at};
+ghost use Rattle.doc_tables.specs.Entries.{IsEntryOf, numbers_in};
+ghost use Rattle.doc_tables.specs.Numbered.{name_at, slot_at};
 
-use crate::entry::PropertyEntry;
+use crate::entry::{ObjectEntry, PropertyEntry};
+use crate::rule::Rule;
 use crate::tables::Tables;
 use document_model::Content;
 use expr_grammar::Expr;
-use fc_base::SlotId;
+use fc_base::{Name, ObjectId, SlotId};
+use indexmap::IndexMap;
+use object_paths::{SlotName, slot_path};
 use property_types::{PropType, Value};
+use std::alloc::{AllocError, Global};
+
+/// Lists the slots of an object behind those so far.
+fn push_slots(
+    properties: &IndexMap<Name, PropertyEntry>,
+    out: &mut Vec<SlotId>,
+) -> Result<(), AllocError>
+    ensures { OnOk result (out.new.items ≡ out.old.items ++ map (λ e. e.1.slot) properties.now.entries) }
+{
+    for (_, entry) in properties {
+        out.push(entry.slot)?;
+    }
+    Ok(())
+}
+
+/// The slots of all objects in their order.
+fn numbers_in_order(
+    alloc: Global,
+    objects: &IndexMap<Name, ObjectEntry>,
+) -> Result<Vec<SlotId>, AllocError>
+    ensures { IfOk result (λ v. v.items ≡ flat_map numbers_in objects.now.entries) }
+{
+    let mut all = Vec::new(alloc);
+    for (_, object) in objects {
+        push_slots(&object.properties, &mut all)?;
+    }
+    Ok(all)
+}
+
+/// The slot at a place of the list of all slots.
+fn number_at_place(objects: &IndexMap<Name, ObjectEntry>, place: usize) -> Option<SlotId>
+    ensures { result ≡ slice_get (flat_map numbers_in objects.now.entries) place }
+{
+    let mut left = place;
+    for (_, object) in objects {
+        let count = object.properties.len();
+        if left < count {
+            let (_, entry) = object.properties.get_index(left).unwrap();
+            return Some(entry.slot);
+        }
+        left -= count;
+    }
+    None
+}
 
 impl Tables {
     /// What stands in a slot.
-    fn entry_of(&self, slot: SlotId) -> &PropertyEntry
+    pub(crate) fn entry_of(&self, slot: SlotId) -> &PropertyEntry
         requires { IsSome (slot_at self.now slot.0) }
         ensures { IsEntryOf self.now slot.0 result.now }
     {
@@ -62,5 +111,66 @@ impl Tables {
             Content::Own(_) => None,
             Content::Bound(expression) => Some(expression),
         }
+    }
+
+    /// The rule of a slot.
+    pub fn rule_of(&self, slot: SlotId) -> Rule
+        requires { IsSome (slot_at self.now slot.0) }
+        ensures { IfSome (rule_at self.now slot.0) (IsRule self.now result) }
+    {
+        match &self.entry_of(slot).content {
+            Content::Own(_) => Rule::Own,
+            Content::Bound(_) => Rule::Bound,
+        }
+    }
+
+    /// A copy of the expression of a slot; none exactly where its rule is another.
+    pub fn bound_of(&self, alloc: Global, slot: SlotId) -> Result<Option<Expr>, AllocError>
+        requires { IsSome (slot_at self.now slot.0) }
+        ensures { IfOk result (λ e. e ≡ tree_at self.now slot.0) }
+    {
+        match self.expression_of(slot) {
+            None => Ok(None),
+            Some(expression) => Ok(Some(expression.copy(alloc)?)),
+        }
+    }
+
+    /// The object of a slot.
+    pub fn owner_of(&self, slot: SlotId) -> ObjectId
+        requires { IsSome (slot_at self.now slot.0) }
+        ensures { name_at self.now result.0 ≡ option_map (λ s. s.object) (slot_at self.now slot.0) }
+    {
+        let place = self.places[slot.0 as usize];
+        let (_, object) = self.objects.get_index(place.object).unwrap();
+        let (_, _) = object.properties.get_index(place.property).unwrap();
+        ObjectId(place.object as u32)
+    }
+
+    /// All slots, in the order of the document.
+    pub fn slots_in_order(&self, alloc: Global) -> Result<Vec<SlotId>, AllocError>
+        ensures { IfOk result (λ v. AreNumbersOf self.now v.items (slots self.now.document)) }
+    {
+        numbers_in_order(alloc, &self.objects)
+    }
+
+    /// The path of a slot from outside, such as `V.a`. It is short enough, and has no character, that
+    /// a text value could not have.
+    pub fn path_of(&self, alloc: Global, slot: SlotId) -> Result<String, AllocError>
+        requires { IsSome (slot_at self.now slot.0) }
+        ensures path { IfOk result (λ text. Some (string_bytes text) ≡ option_map outside_path (slot_at self.now slot.0)) }
+        ensures value { IfOk result (λ text. IsTrue (is_text_value (string_bytes text))) }
+    {
+        let place = self.places[slot.0 as usize];
+        let (owner, object) = self.objects.get_index(place.object).unwrap();
+        let (name, _) = object.properties.get_index(place.property).unwrap();
+        let path = slot_path(alloc, owner, &SlotName::Plain(name.copy(alloc)?))?;
+        String::from_str(alloc, path.as_str())
+    }
+
+    /// The slot at a place of the document, from 0; none exactly past the last.
+    pub fn slot_at(&self, place: u32) -> Option<SlotId>
+        ensures { IsNumberOf self.now result (slice_get (slots self.now.document) place) }
+    {
+        number_at_place(&self.objects, place as usize)
     }
 }

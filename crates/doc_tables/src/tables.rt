@@ -1,9 +1,12 @@
 ghost use Rattle.std.specs.Prelude.{◌≡◌, []};
 ghost use Rattle.doc_tables.specs.Held.{document_held};
+ghost use Rattle.doc_tables.specs.Numbered.{IsNumbered};
+ghost use Rattle.doc_tables.specs.VarSets.{HoldsVarSets};
 
 use crate::entry::{ObjectEntry, SlotPlace};
 use fc_base::Name;
 use indexmap::IndexMap;
+use object_paths::laws::slot_test_is_exact;
 use std::alloc::Global;
 use std::marker::Model;
 
@@ -41,5 +44,20 @@ impl Tables {
             objects: IndexMap::new(alloc),
             places: Vec::new(alloc),
         }
+    }
+
+    /// Nothing to do: the objects are VarSets, and the expressions those of their slots.
+    pub fn holds_var_sets(&self)
+        ensures { HoldsVarSets self.now.document }
+    {
+        let _ = &self.objects;
+    }
+
+    /// Nothing to do: numbers in use and slots are one to one, and so are numbers and objects.
+    pub fn is_numbered(&self)
+        ensures { IsNumbered self.now }
+    {
+        slot_test_is_exact();
+        let _ = &self.objects;
     }
 }

@@ -1,0 +1,24 @@
+-- The dependency lists so far, with one more.
+use Rattle.std.proofs.Common.{◌≡◌, ◌+◌, ◌<◌, ℕ, zero, suc, List, [], ◌∷◌, ◌++◌, map, length, Option, Some, slice_get, unwrap_or, refl, ap, subst, ◌∙◌, arith, below_more}
+use Rattle.doc_tables.specs.Accessors.{deps_at}
+use Rattle.doc_tables.specs.DependencyLists.{list_at}
+use Rattle.doc_tables.specs.Numbered.{Numbered, slot_at}
+
+pub slice_get-left : {A : Type 0} (xs ys : List A) (n : ℕ) → n < length xs → slice_get (xs ++ ys) n ≡ slice_get xs n
+slice_get-left [] ys n h = absurd (omega arith)
+slice_get-left (x ∷ xs) ys zero h = refl
+slice_get-left (x ∷ xs) ys (suc n) h = slice_get-left xs ys n (omega arith)
+
+pub slice_get-seam : {A : Type 0} (xs : List A) (y : A) (ys : List A) → slice_get (xs ++ y ∷ ys) (length xs) ≡ Some y
+slice_get-seam [] y ys = refl
+slice_get-seam (x ∷ xs) y ys = slice_get-seam xs y ys
+
+pub lists-more :
+    (t : Numbered) (lists : List (List ℕ)) (one : List ℕ) (k : ℕ) → length lists ≡ k
+    → ((n : ℕ) → n < k → map (slot_at t) (list_at lists n) ≡ map Some (deps_at t n)) → map (slot_at t) one ≡ map Some (deps_at t k)
+    → (n : ℕ) → n < k + 1 → map (slot_at t) (list_at (lists ++ one ∷ []) n) ≡ map Some (deps_at t n)
+lists-more t lists one k count below here =
+    below_more (λ (n : ℕ). map (slot_at t) (list_at (lists ++ one ∷ []) n) ≡ map Some (deps_at t n)) k
+    (λ n h. let within : n < length lists = omega arith in ap (λ (x : Option (List ℕ)). map (slot_at t) (unwrap_or x [])) (slice_get-left lists (one ∷ []) n within) ∙ below n h)
+    (subst (λ (m : ℕ). map (slot_at t) (list_at (lists ++ one ∷ []) m) ≡ map Some (deps_at t k)) count
+    (ap (λ (x : Option (List ℕ)). map (slot_at t) (unwrap_or x [])) (slice_get-seam lists one []) ∙ here))

@@ -1,0 +1,161 @@
+-- The entry of an object has the numbers of its slots, however the object was found.
+use Rattle.std.proofs.Common.{◌≡◌, ℕ, Bool, true, false, cond, nat_eq, nat_lt, List, [], ◌∷◌, length, Option, Some, None, slice_get, position, refl, sym, ap, subst, ◌∙◌, arith}
+use Rattle.std.specs.Cmp.Lexicographic.{pointwise}
+use Rattle.std.specs.List.{find, position_or_len}
+use Rattle.std.specs.Map.{lookup}
+use Rattle.std.specs.Option.{option_and_then, option_map}
+use Rattle.std.proofs.lemmas.List.Folds.{find_at}
+use Rattle.std.proofs.lemmas.Option.{slice_get-map, slice_get_past}
+use Rattle.fc_base.specs.declared.ids.SlotId.{SlotId}
+use Rattle.object_paths.specs.declared.path.Owner.TheVariants.{Here, ByName, ByLabel}
+use Rattle.object_paths.specs.declared.path.Path.{Path}
+use Rattle.object_paths.specs.declared.slot_name.SlotName.{SlotName}
+use Rattle.object_paths.specs.declared.slot_name.SlotName.TheVariants.{Plain, Component, Marked}
+use Rattle.object_paths.specs.Slots.{same_text, same_slot_name}
+use Rattle.document_model.specs.Document.{Document, Object, object_labelled, object_named}
+use Rattle.document_model.specs.Resolution.{owner_of, slot_in, spelled_slot, resolve}
+use Rattle.document_model.specs.Slots.{Row, row_in, slot_of}
+use Rattle.doc_tables.specs.declared.entry.ObjectEntry.{ObjectEntry}
+use Rattle.doc_tables.specs.declared.entry.PropertyEntry.{PropertyEntry}
+use Rattle.doc_tables.specs.declared.tables.Tables.TheInside.{Inside}
+use Rattle.doc_tables.specs.Accessors.{IsNumberOf}
+use Rattle.doc_tables.specs.Entries.{number_in, IsObjectEntry, IsEntryFor}
+use Rattle.doc_tables.specs.Held.{object_held, document_held, numbered_held, IsObjectHeld, IsHeld}
+use Rattle.doc_tables.specs.Numbered.{Numbered, object_at, slot_at}
+use Rattle.doc_tables.proofs.Finding.{find-map, find-place, find-same, lookup-find, same_text-sym}
+use Rattle.doc_tables.proofs.HeldLemmas.{Named, Owned, row_held, rows-held, slot_named, slot_at-stands, object-found, all_at}
+
+find-never : {A : Type 0} (xs : List A) → find (λ x. false) xs ≡ None
+find-never [] = refl
+find-never (x ∷ xs) = find-never xs
+
+-- what is found by a place is what is found
+pub find-position : {A : Type 0} (p : A → Bool) (xs : List A) → find p xs ≡ option_and_then (slice_get xs) (position p xs)
+find-position p xs =
+    find_at p xs
+    ∙ (elim (nat_lt (position_or_len p xs) (length xs)) as (λ b. nat_lt (position_or_len p xs) (length xs) ≡ b → slice_get xs (position_or_len p xs) ≡ option_and_then (slice_get xs) (cond b (Some (position_or_len p xs)) None)) [
+      | true ↦ λ e. refl
+      | false ↦ λ e. slice_get_past xs (position_or_len p xs) (grind (arith, e))
+    ] refl)
+
+module _ (t : Inside) (held : IsHeld t) where
+  d : Document
+  d = document_held t.objects.entries
+
+  rows_of : (i : ℕ) (o : Owned) → slice_get t.objects.entries i ≡ Some o → (name : SlotName) → slot_in (document_held t.objects.entries) (object_held o) name ≡ option_map (λ (e : Named). slot_named o e) (find (λ (e : Named). same_slot_name (Plain e.0) name) o.1.properties.entries)
+  rows_of i o at name =
+      ap (λ (all : List Row). option_map (λ (r : Row). slot_of (object_held o) r.name) (row_in all name))
+      (rows-held (document_held t.objects.entries) o (all_at IsObjectHeld t.objects.entries i o held.objects at))
+      ∙ ap (option_map (λ (r : Row). slot_of (object_held o) r.name)) (find-map row_held (λ r. same_slot_name r.name name) o.1.properties.entries)
+      ∙ (elim (find (λ (e : Named). same_slot_name (Plain e.0) name) o.1.properties.entries) as (λ f. option_map (λ (r : Row). slot_of (object_held o) r.name) (option_map row_held f) ≡ option_map (λ (e : Named). slot_named o e) f) [
+        | None ↦ refl
+        | Some e ↦ refl
+      ])
+
+  numbered : (i : ℕ) (o : Owned) → slice_get t.objects.entries i ≡ Some o → (f : Option Named) → ((e : Named) → f ≡ Some e → (j : ℕ) × (slice_get o.1.properties.entries j ≡ Some e))
+      → option_map (λ (id : SlotId). slot_at (numbered_held t) id.0) (option_map (λ (e : Named). e.1.slot) f) ≡ option_map Some (option_map (λ (e : Named). slot_named o e) f)
+  numbered i o at None place = refl
+  numbered i o at (Some e) place =
+      let j = place e refl in
+      ap Some (slot_at-stands t held (record { object = i; property = j.0 }) o e (record { object = at; property = j.1 }))
+
+  -- the entry of an object at a place
+  pub entry-at : (i : ℕ) (o : Owned) → slice_get t.objects.entries i ≡ Some o → IsObjectEntry (numbered_held t) (object_held o) o.1
+  entry-at i o at (Plain name) =
+      let es = o.1.properties.entries in
+      let test : Named → Bool = λ e. same_text e.0 name in
+      let own : option_map (λ (p : PropertyEntry). p.slot) (lookup (pointwise nat_eq name) es) ≡ option_map (λ (e : Named). e.1.slot) (find test es) =
+      ap (option_map (λ (p : PropertyEntry). p.slot)) (lookup-find (pointwise nat_eq name) es)
+      ∙ ap (λ (f : Option Named). option_map (λ (p : PropertyEntry). p.slot) (option_map (λ (e : Named). e.1) f)) (find-same (λ (e : Named). pointwise nat_eq name e.0) test es (λ e. same_text-sym name e.0))
+      ∙ (elim (find test es) as (λ f. option_map (λ (p : PropertyEntry). p.slot) (option_map (λ (e : Named). e.1) f) ≡ option_map (λ (e : Named). e.1.slot) f) [ None ↦ refl | Some e ↦ refl ])
+      in
+      ap (option_map (λ (id : SlotId). slot_at (numbered_held t) id.0)) own
+      ∙ numbered i o at (find test es) (λ e h. find-place test es e h)
+      ∙ ap (option_map Some) (sym (rows_of i o at (Plain name)))
+  entry-at i o at (Component name k) =
+      ap (option_map Some) (sym (rows_of i o at (Component name k) ∙ ap (option_map (λ (e : Named). slot_named o e)) (find-never o.1.properties.entries)))
+  entry-at i o at (Marked p) =
+      ap (option_map Some) (sym (rows_of i o at (Marked p) ∙ ap (option_map (λ (e : Named). slot_named o e)) (find-never o.1.properties.entries)))
+
+  -- of an object that a search finds
+  entry-found : (f : Option Owned) → ((o : Owned) → f ≡ Some o → (i : ℕ) × (slice_get t.objects.entries i ≡ Some o)) → IsEntryFor (numbered_held t) (option_map object_held f) (option_map (λ (o : Owned). o.1) f)
+  entry-found None place = tt
+  entry-found (Some o) place = let i = place o refl in entry-at i.0 o i.1
+
+  pub entry-named : (name : List ℕ) → IsEntryFor (numbered_held t) (object_named (document_held t.objects.entries) name) (lookup (pointwise nat_eq name) t.objects.entries)
+  entry-named name =
+      let es = t.objects.entries in
+      let test : Owned → Bool = λ o. same_text o.0 name in
+      let object : object_named (document_held es) name ≡ option_map object_held (find test es) = find-map object_held (λ q. same_text q.name name) es in
+      let entry : lookup (pointwise nat_eq name) es ≡ option_map (λ (o : Owned). o.1) (find test es) =
+      lookup-find (pointwise nat_eq name) es ∙ ap (option_map (λ (o : Owned). o.1)) (find-same (λ (o : Owned). pointwise nat_eq name o.0) test es (λ o. same_text-sym name o.0))
+      in
+      subst (λ (e : Option ObjectEntry). IsEntryFor (numbered_held t) (object_named (document_held es) name) e) (sym entry)
+      (subst (λ (q : Option Object). IsEntryFor (numbered_held t) q (option_map (λ (o : Owned). o.1) (find test es))) (sym object)
+      (entry-found (find test es) (λ o h. find-place test es o h)))
+
+  pub entry-labelled : (label : List ℕ) → IsEntryFor (numbered_held t) (object_labelled (document_held t.objects.entries) label) (option_map (λ (o : Owned). o.1) (option_and_then (slice_get t.objects.entries) (position (λ (o : Owned). same_text o.1.label label) t.objects.entries)))
+  entry-labelled label =
+      let es = t.objects.entries in
+      let test : Owned → Bool = λ o. same_text o.1.label label in
+      let object : object_labelled (document_held es) label ≡ option_map object_held (find test es) = find-map object_held (λ q. same_text q.label label) es in
+      subst (λ (f : Option Owned). IsEntryFor (numbered_held t) (object_labelled (document_held es) label) (option_map (λ (o : Owned). o.1) f)) (find-position test es)
+      (subst (λ (q : Option Object). IsEntryFor (numbered_held t) q (option_map (λ (o : Owned). o.1) (find test es))) (sym object)
+      (entry-found (find test es) (λ o h. find-place test es o h)))
+
+  -- the object of a number in use is the one at its place
+  pub object_at-place : (i : ℕ) (o : Owned) → slice_get t.objects.entries i ≡ Some o → object_at (numbered_held t) i ≡ Some (object_held o)
+  object_at-place i o at =
+      ap (λ (x : Option (Option (List ℕ))). option_and_then (object_named (document_held t.objects.entries)) (option_and_then (λ (y : Option (List ℕ)). y) x))
+      (slice_get-map (λ (x : Owned). Some x.0) t.objects.entries i ∙ ap (option_map (λ (x : Owned). Some x.0)) at)
+      ∙ object-found t held i o at
+
+  pub entry-here : (i : ℕ) (o : Owned) → slice_get t.objects.entries i ≡ Some o → IsEntryFor (numbered_held t) (object_at (numbered_held t) i) (Some o.1)
+  entry-here i o at = subst (λ (q : Option Object). IsEntryFor (numbered_held t) q (Some o.1)) (sym (object_at-place i o at)) (entry-at i o at)
+
+-- the slot that a name spells at an object that was found
+pub spelled-found : (t : Numbered) (found : Option Object) (entry : Option ObjectEntry) (name : SlotName) → IsEntryFor t found entry → IsNumberOf t (option_and_then (λ (e : ObjectEntry). number_in e name) entry) (option_and_then (λ (o : Object). spelled_slot t.document o o.kind name) found)
+spelled-found t None None name h = refl
+spelled-found t None (Some e) name h = absurd h
+spelled-found t (Some o) None name h = absurd h
+spelled-found t (Some o) (Some e) name h = h name
+
+-- what a path of an object names, by the entry of its owner
+pub resolve-found : (t : Numbered) (here : Option Object) (e : ObjectEntry) (p : Path) (w : Option Object) (found : Option ObjectEntry) (id : Option SlotId)
+    → ((o : Object) → here ≡ Some o → owner_of t.document o p.owner ≡ w) → IsEntryFor t here (Some e) → IsEntryFor t w found
+    → id ≡ option_and_then (λ (x : ObjectEntry). number_in x p.slot) found → IsNumberOf t id (option_and_then (λ (o : Object). resolve t.document o p) here)
+unfolding resolve
+resolve-found t None e p w found id owner h k is = absurd h
+resolve-found t (Some o) e p w found id owner h k is =
+    subst (λ (x : Option SlotId). IsNumberOf t x (option_and_then (λ (q : Object). spelled_slot t.document q q.kind p.slot) (owner_of t.document o p.owner))) (sym is)
+    (subst (λ (x : Option Object). IsNumberOf t (option_and_then (λ (y : ObjectEntry). number_in y p.slot) found) (option_and_then (λ (q : Object). spelled_slot t.document q q.kind p.slot) x))
+    (sym (owner o refl)) (spelled-found t w found p.slot k))
+
+module _ (t : Numbered) (here : Option Object) (e : ObjectEntry) (p : Path) (h : IsEntryFor t here (Some e)) where
+  pub resolve-here : (id : Option SlotId) → p.owner ≡ Here → id ≡ number_in e p.slot → IsNumberOf t id (option_and_then (λ (o : Object). resolve t.document o p) here)
+  resolve-here id is n = resolve-found t here e p here (Some e) id (λ o at. ap (owner_of t.document o) is ∙ sym at) h h n
+
+  pub resolve-named : (name : List ℕ) (found : Option ObjectEntry) (id : Option SlotId) → p.owner ≡ ByName name → IsEntryFor t (object_named t.document name) found
+      → id ≡ option_and_then (λ (x : ObjectEntry). number_in x p.slot) found → IsNumberOf t id (option_and_then (λ (o : Object). resolve t.document o p) here)
+  resolve-named name found id is k n = resolve-found t here e p (object_named t.document name) found id (λ o at. ap (owner_of t.document o) is) h k n
+
+  pub resolve-labelled : (label : List ℕ) (found : Option ObjectEntry) (id : Option SlotId) → p.owner ≡ ByLabel label → IsEntryFor t (object_labelled t.document label) found
+      → id ≡ option_and_then (λ (x : ObjectEntry). number_in x p.slot) found → IsNumberOf t id (option_and_then (λ (o : Object). resolve t.document o p) here)
+  resolve-labelled label found id is k n = resolve-found t here e p (object_labelled t.document label) found id (λ o at. ap (owner_of t.document o) is) h k n
+
+-- the same of what tables show
+module _ (v : Numbered) (t : Inside) (held : IsHeld t) (is : numbered_held t ≡ v) where
+  pub named-read : (name : List ℕ) (e : Option ObjectEntry) → e ≡ lookup (pointwise nat_eq name) t.objects.entries → IsEntryFor v (object_named v.document name) e
+  named-read name e h =
+      subst (λ (x : Option ObjectEntry). IsEntryFor v (object_named v.document name) x) (sym h)
+      (subst (λ (w : Numbered). IsEntryFor w (object_named w.document name) (lookup (pointwise nat_eq name) t.objects.entries)) is (entry-named t held name))
+
+  pub labelled-read : (label : List ℕ) (place : Option ℕ) (e : Option ObjectEntry) → place ≡ position (λ (o : Owned). same_text o.1.label label) t.objects.entries
+      → e ≡ option_map (λ (o : Owned). o.1) (option_and_then (slice_get t.objects.entries) place) → IsEntryFor v (object_labelled v.document label) e
+  labelled-read label place e at h =
+      subst (λ (x : Option ObjectEntry). IsEntryFor v (object_labelled v.document label) x)
+      (sym (h ∙ ap (λ (p : Option ℕ). option_map (λ (o : Owned). o.1) (option_and_then (slice_get t.objects.entries) p)) at))
+      (subst (λ (w : Numbered). IsEntryFor w (object_labelled w.document label) (option_map (λ (o : Owned). o.1) (option_and_then (slice_get t.objects.entries) (position (λ (o : Owned). same_text o.1.label label) t.objects.entries)))) is (entry-labelled t held label))
+
+  pub here-read : (i : ℕ) (o : Owned) → Some o ≡ slice_get t.objects.entries i → IsEntryFor v (object_at v i) (Some o.1)
+  here-read i o at = subst (λ (w : Numbered). IsEntryFor w (object_at w i) (Some o.1)) is (entry-here t held i o (sym at))

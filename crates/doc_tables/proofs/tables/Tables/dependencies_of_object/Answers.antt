@@ -1,0 +1,12 @@
+use Rattle.std.proofs.Common.{ℕ, min, sym, ap, ◌∙◌}
+use Rattle.std.specs.Option.{option_map}
+use Rattle.std.specs.Map.Iter.{deref_pair}
+use Rattle.doc_tables.proofs.CountLemmas.{object-counted}
+use Rattle.doc_tables.proofs.tables.Tables.dependencies_of_object.Goals as goal
+
+pub returns : goal.returns
+returns c =
+    c.reached_of_properties.ensures
+    ∙ ap (λ (n : ℕ). min n 18446744073709551615)
+    (object-counted c.args.self.now c.self.inside c.self.invariant c.self.view_is c.args.object.0 (deref_pair c.unwrap.result)
+    (sym (ap (option_map deref_pair) c.unwrap.ensures) ∙ c.get_index.ensures.entry))
