@@ -4,6 +4,7 @@
 mod counts;
 mod dependencies;
 mod entry;
+mod finds_all;
 mod objects;
 mod rule;
 mod slots;
