@@ -12,3 +12,5 @@ pub mod FoundHeld
 pub mod NumberedHeld
 pub mod CountLemmas
 pub mod PlaceLemmas
+pub mod ShownLemmas
+pub mod HeldBy

@@ -7,3 +7,4 @@ pub mod FindsAll
 pub mod Held
 pub mod Entries
 pub mod Counted
+pub mod Shown

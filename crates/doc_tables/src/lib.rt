@@ -1,6 +1,7 @@
 //! A document as tables: objects and properties by name, slots by number.
 #![tactic(auto)]
 
+mod changes;
 mod counts;
 mod dependencies;
 mod entry;

@@ -1,6 +1,6 @@
 -- How much there is to evaluate, slot by slot and in all.
 use Rattle.std.proofs.Common.{◌≡◌, inl, inr, ℕ, ◌+◌, ◌≤◌, List, [], ◌∷◌, length, Some, None, refl, sym, ◌∙◌, ap, subst, arith}
-use Rattle.std.specs.Prelude.{Option, IsSome, is_some, true, false}
+use Rattle.std.specs.Prelude.{Option, true, false}
 use Rattle.std.specs.List.{filter_map, cons_option, sum_by, IsDistinct}
 use Rattle.std.specs.Option.{option_and_then, option_map_or}
 use Rattle.std.proofs.lemmas.List.Sums.{sum_by-cons}
@@ -12,7 +12,7 @@ use Rattle.object_paths.specs.Slots.{Slot, same_slot}
 use Rattle.document_model.specs.Counts.{expressions, nodes_of_document}
 use Rattle.document_model.specs.Dependencies.{deps}
 use Rattle.document_model.specs.Document.{Document}
-use Rattle.document_model.specs.Slots.{Rule, slots, rule_of}
+use Rattle.document_model.specs.Slots.{slots, rule_of}
 use Rattle.document_model.proofs.Members.{from_filter_map}
 use Rattle.document_outcomes.proofs.SlotTests.{slot_equal}
 use Rattle.doc_tables.proofs.VarSetLemmas.{of_all}

@@ -1,8 +1,8 @@
 -- What is kept once all slots are worked out.
-use Rattle.std.proofs.Common.{◌≡◌, inl, inr, ℕ, ◌+◌, ◌≤◌, Bool, cond, List, [], ◌∷◌, map, length, Some, None, refl, sym, ◌∙◌, ap, subst, arith}
+use Rattle.std.proofs.Common.{◌≡◌, inl, inr, ℕ, ◌+◌, Bool, cond, List, [], ◌∷◌, map, length, Some, None, refl, sym, ◌∙◌, ap}
 use Rattle.std.specs.Prelude.{Option, IsSome, Err, is_some, count_by, filter, not, unwrap_or}
-use Rattle.std.specs.List.{filter_map, cons_option, sum_by, list_any}
-use Rattle.std.specs.Option.{option_and_then, option_map, option_map_or}
+use Rattle.std.specs.List.{filter_map, cons_option, list_any}
+use Rattle.std.specs.Option.{option_and_then, option_map}
 use Rattle.std.specs.Result.{is_err}
 use Rattle.std.proofs.lemmas.List.Sums.{sum_by-cons}
 use Rattle.fc_base.specs.Graph.{IsIn}
@@ -14,13 +14,13 @@ use Rattle.property_types.specs.Plans.{Slots}
 use Rattle.document_model.specs.declared.kind.ObjectKind.{ObjectKind}
 use Rattle.document_model.specs.declared.kind.ObjectKind.TheVariants.{VarSet}
 use Rattle.document_model.specs.Document.{Document, Object}
-use Rattle.document_model.specs.Ends.{end_of, end_from, end_along, plan_of_kind, plan_behind}
+use Rattle.document_model.specs.Ends.{end_from, end_along, plan_of_kind, plan_behind}
 use Rattle.document_model.specs.Slots.{slots}
-use Rattle.document_outcomes.specs.Called.{Entry, entry_of, entry_with, input_lists, called, same_entry}
-use Rattle.document_outcomes.specs.Full.{Meanings, full, local}
+use Rattle.document_outcomes.specs.Called.{Entry, entry_of, input_lists, called, same_entry}
+use Rattle.document_outcomes.specs.Full.{Meanings, full}
 use Rattle.document_outcomes.proofs.OrderLemmas.{evaluated-full}
 use Rattle.doc_tables.specs.Accessors.{AreNumbersOf}
-use Rattle.doc_tables.specs.Numbered.{Numbered, IsNumbered, at_number, slot_at, number_of}
+use Rattle.doc_tables.specs.Numbered.{Numbered, IsNumbered, at_number, slot_at}
 use Rattle.doc_tables.specs.VarSets.{IsVarSet, HoldsVarSets}
 use Rattle.doc_tables.proofs.NumberLemmas.{number_of_slot}
 use Rattle.doc_tables.proofs.VarSetLemmas.{of_all}
@@ -39,9 +39,9 @@ module _ (t : Numbered) (numbered : IsNumbered t) (values : List (Option Outcome
             elim (at_number values n) as (λ (o : Option Outcome). at_number values n ≡ o → o ≡ None) [
               | None ↦ λ h. refl
               | Some x ↦ λ h. absurd (
-                let used : IsSome (slot_at t n) = ordered.used n ((kept n).0 (ap is_some h)) in
-                let no = ap is_some e in
-                cc)
+                  let used : IsSome (slot_at t n) = ordered.used n ((kept n).0 (ap is_some h)) in
+                  let no = ap is_some e in
+                  cc)
             ] refl
         | Some s ↦ λ e.
             let there = some_value (at_number values n) ((kept n).1 (ordered.all n (ap is_some e))) in

@@ -1,6 +1,6 @@
 -- What is kept behind a step of working out.
-use Rattle.std.proofs.Common.{◌≡◌, ◌⊎◌, ◌↔◌, inl, inr, ℕ, zero, suc, ◌+◌, ◌<◌, List, [], ◌∷◌, length, drop, get_or, set, Some, None, refl, sym, ◌∙◌, ap, subst, arith}
-use Rattle.std.specs.Prelude.{Option, IsSome, true, is_some, slice_get, Err, unwrap_or, replicate}
+use Rattle.std.proofs.Common.{◌≡◌, ◌⊎◌, inl, inr, ℕ, zero, suc, ◌+◌, ◌<◌, List, [], ◌∷◌, length, drop, get_or, set, Some, None, refl, sym, ◌∙◌, ap, subst, arith}
+use Rattle.std.specs.Prelude.{Option, IsSome, is_some, slice_get, Err, unwrap_or, replicate}
 use Rattle.std.specs.List.{filter_map, cons_option}
 use Rattle.std.specs.Option.{option_map_or, option_and_then}
 use Rattle.std.proofs.Math.Seq.{drop-cons, drop-length}
@@ -11,7 +11,7 @@ use Rattle.property_types.specs.Values.{Outcome}
 use Rattle.document_outcomes.specs.Full.{Meanings, local}
 use Rattle.doc_tables.specs.Numbered.{Numbered, IsNumbered, at_number, slot_at, number_of}
 use Rattle.recompute.specs.Kept.{kept_at, kept_for, IsGiven}
-use Rattle.recompute.specs.Order.{WorksOut, AreKeptFor}
+use Rattle.recompute.specs.Order.{AreKeptFor}
 
 slice_get-set_same : {A : Type 0} (xs : List A) (i : ℕ) (x : A) → i < length xs → slice_get (set xs i x) i ≡ Some x
 slice_get-set_same [] i x lt = absurd (omega arith)
@@ -107,7 +107,7 @@ module _ (t : Numbered) (numbered : IsNumbered t) (order : List ℕ) (before val
         leads = λ m w e.
             working.leads m w
             (subst (λ (q : List Slot). EvaluatesAll (local m t.document) q (kept_for t values) w) (sym slots_split)
-              (kept_for t (set values n (Some given)), keeping-evaluates t numbered values n s given found.1 within is_given m, e));
+            (kept_for t (set values n (Some given)), keeping-evaluates t numbered values n s given found.1 within is_given m, e));
         kept = λ k i. elim (working.kept k i) [
           | inl j ↦ elim (subst (λ (q : List ℕ). IsIn k q) split j) [
             | inl h ↦ inr (subst (λ (q : ℕ). IsSome (at_number (set values n (Some given)) q)) (sym h) (ap is_some (at_number-set_same values n given within)))
@@ -123,6 +123,7 @@ module _ (t : Numbered) (numbered : IsNumbered t) (order : List ℕ) (before val
         | inl e ↦ subst (λ (q : ℕ). IsSome (at_number (set values (get_or order done 0) (Some given)) q)) (sym e) (ap is_some (at_number-set_same values (get_or order done 0) given within))
         | inr apart ↦ subst (λ (q : Option Outcome). IsSome q) (sym (at_number-set_other values (get_or order done 0) given k apart)) h
       ]
+
       was : (k : ℕ) → IsSome (at_number (set values (get_or order done 0) (Some given)) k) → IsIn k order
       was k h = elim (same_or_not k (get_or order done 0)) [
         | inl e ↦ subst (λ (q : ℕ). IsIn q order) (sym e) (IsIn-at order done 0 more)

@@ -1,8 +1,8 @@
 -- The order in which the slots of a valid document are worked out.
-use Rattle.std.proofs.Common.{◌≡◌, ◌⊎◌, ◌↔◌, inl, inr, ℕ, zero, suc, ◌+◌, ◌<◌, ◌≤◌, ◌^◌, Bool, true, false, cond, List, [], ◌∷◌, map, length, drop, get_or, set, replicate, Some, None, refl, sym, ◌∙◌, ap, subst, arith}
+use Rattle.std.proofs.Common.{◌≡◌, ◌⊎◌, inl, inr, ℕ, zero, suc, ◌+◌, ◌<◌, ◌^◌, Bool, true, false, cond, List, [], ◌∷◌, map, length, drop, get_or, set, replicate, Some, None, refl, sym, ◌∙◌, ap, subst, arith}
 use Rattle.std.specs.Prelude.{Option, IsSome, is_some, slice_index_or, slice_get, filter, Vec, unwrap_or}
 use Rattle.std.specs.List.{filter_map, cons_option}
-use Rattle.std.specs.Option.{option_map_or, option_map}
+use Rattle.std.specs.Option.{option_map_or}
 use Rattle.std.proofs.Math.Seq.{drop-cons, drop-length}
 use Rattle.std.proofs.lemmas.List.{get_or-set_same, get_or-set_other}
 use Rattle.std.proofs.lemmas.Option.{slice_get_within}
@@ -10,15 +10,14 @@ use Rattle.fc_base.specs.Graph.{IsIn, Reaches, direct, onward, IsOrdered}
 use Rattle.fc_base.specs.declared.ids.SlotId.{SlotId}
 use Rattle.object_paths.specs.Slots.{Slot}
 use Rattle.document_model.specs.Dependencies.{deps}
-use Rattle.document_model.specs.Document.{Document}
 use Rattle.document_model.specs.Slots.{slots}
 use Rattle.document_outcomes.specs.Cycles.{OrdersSlots}
 use Rattle.document_outcomes.specs.Faults.{IsValid}
 use Rattle.document_outcomes.proofs.CycleLemmas.{no_cycle-acyclic}
 use Rattle.document_outcomes.proofs.FaultLemmas.{valid-no_cycle}
-use Rattle.doc_tables.specs.Accessors.{AreNumbersOf, deps_at}
+use Rattle.doc_tables.specs.Accessors.{AreNumbersOf}
 use Rattle.doc_tables.specs.DependencyLists.{list_at, AreDependencyLists}
-use Rattle.doc_tables.specs.Numbered.{Numbered, IsNumbered, slot_at, number_of}
+use Rattle.doc_tables.specs.Numbered.{Numbered, IsNumbered, slot_at}
 use Rattle.doc_tables.proofs.NumberLemmas.{from_mapped, to_mapped, at_number-within, slot_at-once, listed-dep, reaches_itself-by_number}
 use Rattle.doc_tables.proofs.OrderLemmas.{slots-ordered, all_slots-listed}
 use Rattle.dependency_order.specs.Nodes.{inputs_of, AreNodes, OrdersAll, HasCycle}
@@ -41,14 +40,14 @@ module _ (t : Numbered) (numbered : IsNumbered t) where
   marks-tell ids marks listed marked = λ n.
       same_test (slice_index_or marks n false) (is_some (slot_at t n))
       (λ h.
-          let m = marked.only n h in
-          let f = from_mapped (λ (id : SlotId). slot_at t id.0) ids (slots t.document) listed m.0 m.1 in
-          ap is_some (ap (slot_at t) m.2 ∙ f.1))
+      let m = marked.only n h in
+      let f = from_mapped (λ (id : SlotId). slot_at t id.0) ids (slots t.document) listed m.0 m.1 in
+      ap is_some (ap (slot_at t) m.2 ∙ f.1))
       (λ h.
-          let v = some_value (slot_at t n) h in
-          let f = to_mapped (λ (id : SlotId). slot_at t id.0) ids (slots t.document) listed v.0 (slot-of_document n v.0 v.1) in
-          let id : SlotId = f.0 in
-          subst (λ (k : ℕ). slice_index_or marks k false ≡ true) (slot_at-once t numbered id.0 n v.0 f.1 v.1) (marked.all id f.2))
+      let v = some_value (slot_at t n) h in
+      let f = to_mapped (λ (id : SlotId). slot_at t id.0) ids (slots t.document) listed v.0 (slot-of_document n v.0 v.1) in
+      let id : SlotId = f.0 in
+      subst (λ (k : ℕ). slice_index_or marks k false ≡ true) (slot_at-once t numbered id.0 n v.0 f.1 v.1) (marked.all id f.2))
 
   -- the numbers of slots are below the limit
   pub listed-below : (ids : List SlotId) → AreNumbersOf t ids (slots t.document) → (id : SlotId) → IsIn id ids → id.0 < length t.slots
@@ -94,6 +93,7 @@ module _ {A : Type 0} (t : Numbered) (numbered : IsNumbered t) (inputs : List (V
       empty e below =
           let h : map (slot_at t) (list_at lists n) ≡ [] = listed.each n below ∙ ap (λ (q : Option Slot). map Some (option_map_or (deps t.document) q [])) e in
           elim (list_at lists n) as (λ (q : List ℕ). map (slot_at t) q ≡ [] → q ≡ []) [ [] ↦ λ k. refl | x ∷ xs ↦ λ k. absurd (cc) ] h
+
       nothing : slot_at t n ≡ None → ⊥
       nothing e = elim (slice_get lists n) as (λ (q : Option (List ℕ)). slice_get lists n ≡ q → IsIn d (unwrap_or q []) → ⊥) [
         | None ↦ λ h j. j

@@ -1,6 +1,6 @@
 -- What the references of an expression have for what is kept.
 use Rattle.std.proofs.Common.{◌≡◌, ℕ, List, [], Some, None, refl, sym, ◌∙◌, ap, subst}
-use Rattle.std.specs.Prelude.{◌≢◌, IfOk, IfSome, Result, Option, Ok, Err, unwrap_or, slice_get, map}
+use Rattle.std.specs.Prelude.{◌≢◌, IfOk, IfSome, Result, Option, Ok, Err, slice_get, map}
 use Rattle.std.specs.Option.{option_map, option_and_then, option_map_or}
 use Rattle.fc_base.specs.Graph.{IsIn}
 use Rattle.fc_base.specs.declared.ids.SlotId.{SlotId}
@@ -13,14 +13,14 @@ use Rattle.property_types.specs.Values.{Outcome}
 use Rattle.expr_grammar.specs.References.{Reference, references}
 use Rattle.expr_grammar.specs.Tree.{Tree}
 use Rattle.expr_eval.specs.Outcomes.{Reading, outcome_of}
-use Rattle.document_model.specs.Dependencies.{slot_reached, cells_reached}
-use Rattle.document_model.specs.Document.{Document, Object, object_named}
+use Rattle.document_model.specs.Dependencies.{slot_reached}
+use Rattle.document_model.specs.Document.{Object, object_named}
 use Rattle.document_model.specs.Slots.{Rule, own, bound, inherit, global, output, type_of, rule_of}
 use Rattle.document_model.proofs.Members.{and_then_some, from_find}
-use Rattle.document_outcomes.specs.Full.{Meanings, at_slot, in_cells, reading, fitted, local}
+use Rattle.document_outcomes.specs.Full.{at_slot, in_cells, reading, fitted}
 use Rattle.document_outcomes.proofs.RowLemmas.{IsWritten}
-use Rattle.doc_tables.specs.Accessors.{AreReached, reached_at, rule_at, own_by, own_at, tree_by, tree_at}
-use Rattle.doc_tables.specs.Numbered.{Numbered, IsNumbered, at_number, slot_at, number_of}
+use Rattle.doc_tables.specs.Accessors.{AreReached, reached_at, own_by, own_at, tree_by, tree_at}
+use Rattle.doc_tables.specs.Numbered.{Numbered, IsNumbered, at_number, slot_at}
 use Rattle.doc_tables.specs.VarSets.{HoldsVarSets}
 use Rattle.doc_tables.proofs.ReadingLemmas.{reading-by_number}
 use Rattle.doc_tables.proofs.VarSetLemmas.{no_cells-reached}
@@ -49,9 +49,9 @@ module _ (t : Numbered) (numbered : IsNumbered t) (holds : HoldsVarSets t.docume
   reading_kept-is n s o e ids at named tree reached =
       let here : IsIn o t.document.objects = from_find (λ (q : Object). same_text q.name s.object) t.document.objects o named in
       let same : (k : ℕ) → option_map_or (λ (id : SlotId). kept_at values id.0) (at_number ids k) (Err Range)
-          ≡ at_slot (kept_for t values) (option_and_then (slot_reached t.document o) (slice_get (references e) k)) =
+      ≡ at_slot (kept_for t values) (option_and_then (slot_reached t.document o) (slice_get (references e) k)) =
       λ k. reading-by_number t (λ (id : SlotId). kept_at values id.0) (kept_for t values) (Err Range) (λ id u h. kept_for-number t numbered values id.0 u h) n s o e ids at named tree reached k
-        ∙ at_slot-is (kept_for t values) (option_and_then (slot_reached t.document o) (slice_get (references e) k)) in
+      ∙ at_slot-is (kept_for t values) (option_and_then (slot_reached t.document o) (slice_get (references e) k)) in
       λ i. record { at = λ k. same k i; inside = λ k. in_cells-none o (kept_for t values) here (slice_get (references e) k) i }
 
   -- the rule of a slot whose number has an expression

@@ -1,7 +1,7 @@
 -- What the rule of a slot of a VarSet gives.
-use Rattle.std.proofs.Common.{◌≡◌, inl, inr, ℕ, List, [], ◌∷◌, map, Some, None, refl, sym, ◌∙◌, ap, subst}
+use Rattle.std.proofs.Common.{◌≡◌, inl, inr, ℕ, List, [], ◌∷◌, Some, None, refl, sym, ◌∙◌, ap, subst}
 use Rattle.std.specs.Prelude.{◌≢◌, Option, Ok, Err}
-use Rattle.std.specs.Option.{option_map, option_and_then, option_map_or}
+use Rattle.std.specs.Option.{option_map_or}
 use Rattle.fc_base.specs.Graph.{IsIn}
 use Rattle.object_paths.specs.declared.slot_name.Component as c
 use Rattle.object_paths.specs.declared.slot_name.Component.TheVariants.{X, Y, Z, Turn}
@@ -16,14 +16,12 @@ use Rattle.property_types.specs.Values.{Outcome}
 use Rattle.expr_eval.specs.Outcomes.{outcome_of}
 use Rattle.expr_grammar.specs.Tree.{Tree}
 use Rattle.document_model.specs.declared.content.Content.{Content}
-use Rattle.document_model.specs.declared.kind.ObjectKind.TheVariants.{VarSet}
 use Rattle.document_model.specs.Document.{Document, Object, Property, object_named}
-use Rattle.document_model.specs.Slots.{Rule, own, bound, inherit, global, output, Row, rows, rows_by, rows_in_order, dynamic_rows, row_in, row_of, type_of, rule_of}
+use Rattle.document_model.specs.Slots.{Rule, own, bound, Row, rows, rows_by, rows_in_order, dynamic_rows, row_in, row_of, type_of, rule_of}
 use Rattle.document_model.specs.TypedSlots.{components, type_of_component, property_slots}
 use Rattle.document_model.proofs.Members.{and_then_some, map_some, from_find, from_map, from_flat_map}
 use Rattle.document_outcomes.specs.Full.{Meanings, reading, fitted, outcome_by_rule, local}
 use Rattle.document_outcomes.proofs.RowLemmas.{IsWritten, dynamic-written}
-use Rattle.doc_tables.specs.Accessors.{own_by, tree_by}
 use Rattle.doc_tables.specs.VarSets.{IsVarSet, HoldsVarSets}
 use Rattle.doc_tables.proofs.VarSetLemmas.{of_all}
 
@@ -95,9 +93,12 @@ module _ (m : Meanings) (d : Document) (s : Slot) (w : Slot → Outcome) where
   local-by : (rule : Rule) (h : rule_of d s ≡ Some rule) → (o : Object) × (object_named d s.object ≡ Some o) × (local m d s w ≡ outcome_by_rule m d s o w (Some rule))
   unfolding local
   local-by rule h =
-      let o = object-found rule h in
-      (o.0, o.1, ap (λ (q : Option Object). option_map_or (λ o. outcome_by_rule m d s o w (rule_of d s)) q (Err Range)) o.1
-        ∙ ap (outcome_by_rule m d s o.0 w) h)
+      let o = object-found rule h in (
+        o.0,
+        o.1,
+        ap (λ (q : Option Object). option_map_or (λ o. outcome_by_rule m d s o w (rule_of d s)) q (Err Range)) o.1
+            ∙ ap (outcome_by_rule m d s o.0 w) h,
+      )
 
   pub local-own : (v : Value) → rule_of d s ≡ Some (own v) → local m d s w ≡ Ok v
   local-own v h = let f = local-by (own v) h in f.2

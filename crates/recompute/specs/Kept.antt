@@ -1,6 +1,6 @@
 -- The outcomes that are kept by the numbers of slots.
 use Rattle.std.specs.Prelude.{◌≡◌, ℕ, List, [], Option, Some, Err, unwrap_or, count_by}
-use Rattle.std.specs.Option.{option_map, option_and_then, option_map_or}
+use Rattle.std.specs.Option.{option_map, option_map_or}
 use Rattle.std.specs.Result.{is_err}
 use Rattle.fc_base.specs.declared.ids.SlotId.{SlotId}
 use Rattle.object_paths.specs.Slots.{Slot}

@@ -22,11 +22,18 @@ fn is_fault(outcomes: &[Option<Outcome>], slot: SlotId) -> bool
 fn faults_among(outcomes: &[Option<Outcome>], slots: &[SlotId]) -> u64
     ensures { result ≡ count_by (λ id. is_err (kept_at outcomes.now id.0)) slots.now }
 {
-    slots.iter().filter(|slot| is_fault(outcomes, **slot)).count() as u64
+    slots
+        .iter()
+        .filter(|slot| is_fault(outcomes, **slot))
+        .count() as u64
 }
 
 /// How many slots have a fault for an outcome.
-pub fn fault_count(alloc: Global, tables: &Tables, outcomes: &[Option<Outcome>]) -> Result<u64, AllocError>
+pub fn fault_count(
+    alloc: Global,
+    tables: &Tables,
+    outcomes: &[Option<Outcome>],
+) -> Result<u64, AllocError>
     ensures { IfOk result (λ count. count ≡ count_by (λ s. is_err (kept_for tables.now outcomes.now s)) (slots tables.now.document)) }
 {
     tables.is_numbered();

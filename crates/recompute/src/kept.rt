@@ -35,7 +35,10 @@ fn copied_outcome(alloc: Global, outcome: &Option<Outcome>) -> Result<Option<Out
 }
 
 /// Equal outcomes.
-pub fn copied(alloc: Global, outcomes: &[Option<Outcome>]) -> Result<Vec<Option<Outcome>>, AllocError>
+pub fn copied(
+    alloc: Global,
+    outcomes: &[Option<Outcome>],
+) -> Result<Vec<Option<Outcome>>, AllocError>
     ensures { IfOk result (λ copies. copies.items ≡ outcomes.now) }
 {
     let mut copies = Vec::with_capacity(alloc, outcomes.len())?;

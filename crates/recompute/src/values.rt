@@ -41,7 +41,11 @@ pub struct Report {
 }
 
 /// The outcomes of all slots, by their numbers, worked out from nothing.
-fn worked_out<L>(alloc: Global, tables: &Tables, steps: &mut Steps<L>) -> Result<Vec<Option<Outcome>>, AllocError>
+fn worked_out<L>(
+    alloc: Global,
+    tables: &Tables,
+    steps: &mut Steps<L>,
+) -> Result<Vec<Option<Outcome>>, AllocError>
     requires valid { IsValid tables.now.document }
     requires counted { steps.old < 2 ^ 64 }
     ensures outcomes { IfOk result (λ v. (m : Meanings) → AreFull m tables.now v.items) }
@@ -85,7 +89,11 @@ impl Values {
 
     /// Works the outcome of each slot out from nothing: each once, behind those that it depends on. Of
     /// the outcomes that were there before nothing is left; without memory they all stay.
-    pub fn recompute<L>(&mut self, tables: &Tables, steps: &mut Steps<L>) -> Result<Report, AllocError>
+    pub fn recompute<L>(
+        &mut self,
+        tables: &Tables,
+        steps: &mut Steps<L>,
+    ) -> Result<Report, AllocError>
         requires valid { IsValid tables.now.document }
         ensures outcomes { OnOk result ((m : Meanings) → AreFull m tables.now self.new) }
         ensures calls { IfOk result (λ report. (m : Meanings) (last : List Entry) → report.calls ≡ length (called m last tables.now.document)) }

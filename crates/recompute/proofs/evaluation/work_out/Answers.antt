@@ -1,8 +1,6 @@
-use Rattle.std.proofs.Common.{◌≡◌, ◌<◌, ◌≤◌, ◌+◌, ◌^◌, ◌-◌, ℕ, min, length, get_or, drop, replicate, Some, None, ap, subst, sym, ◌∙◌, arith}
-use Rattle.std.specs.Prelude.{Option, List}
-use Rattle.std.specs.List.{sum_by}
+use Rattle.std.proofs.Common.{◌≡◌, ◌<◌, ℕ, length, get_or, None, ap, ◌∙◌, arith}
+use Rattle.std.specs.Prelude.{List}
 use Rattle.std.proofs.lemmas.List.{length-replicate}
-use Rattle.property_types.specs.Values.{Outcome}
 use Rattle.doc_tables.specs.Numbered.{slot_at}
 use Rattle.doc_tables.proofs.NumberLemmas.{at_number-within}
 use Rattle.recompute.specs.Steps.{nodes_at, trees_at}

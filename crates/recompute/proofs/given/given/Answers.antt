@@ -1,5 +1,4 @@
-use Rattle.std.proofs.Common.{◌≡◌, sym, subst, Ok}
-use Rattle.property_types.specs.Values.{Outcome}
+use Rattle.std.proofs.Common.{sym, subst, Ok}
 use Rattle.property_types.specs.declared.value.Value.{Value}
 use Rattle.recompute.specs.Kept.{IsGiven}
 use Rattle.recompute.proofs.ReadingLemmas.{given-own, given-none}

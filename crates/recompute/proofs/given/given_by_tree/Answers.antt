@@ -15,6 +15,6 @@ pub returns-clause-outcome : goal.returns-clause-outcome
 returns-clause-outcome g c =
     on_ok (λ (o : Outcome). o ≡ fitted (option_map (λ p. p.now) c.type_of.result) c.in_ok-given.given) (IsGiven c.args.tables.now c.args.outcomes.now c.args.slot.0) c.fitted.result
     (λ o fits.
-        given-fitted c.args.tables.now c.is_numbered.ensures c.holds_var_sets.ensures c.args.outcomes.now c.args.slot.0 c.args.tree.now c.deref.result.now
-        (option_map (λ p. p.now) c.type_of.result) c.in_ok-given.given o c.requires.tree (subst (λ (ids : List (Option SlotId)). AreReached c.args.tables.now ids (reached_at c.args.tables.now c.args.slot.0)) (sym c.deref.ensures.value) c.in_ok-reached.ensures) c.type_of.ensures c.in_ok-given.ensures.outcome fits)
+    given-fitted c.args.tables.now c.is_numbered.ensures c.holds_var_sets.ensures c.args.outcomes.now c.args.slot.0 c.args.tree.now c.deref.result.now
+    (option_map (λ p. p.now) c.type_of.result) c.in_ok-given.given o c.requires.tree (subst (λ (ids : List (Option SlotId)). AreReached c.args.tables.now ids (reached_at c.args.tables.now c.args.slot.0)) (sym c.deref.ensures.value) c.in_ok-reached.ensures) c.type_of.ensures c.in_ok-given.ensures.outcome fits)
     c.fitted.ensures

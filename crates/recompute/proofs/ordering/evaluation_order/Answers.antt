@@ -1,4 +1,4 @@
-use Rattle.std.proofs.Common.{◌≡◌, ◌<◌, ◌^◌, List, Bool, ℕ, map, length, sym, subst, arith, Some, None, Global, false}
+use Rattle.std.proofs.Common.{◌≡◌, ◌<◌, ◌^◌, List, ℕ, map, length, sym, subst, arith, Global, false}
 use Rattle.std.specs.Prelude.{Vec, Option, filter, slice_index_or}
 use Rattle.doc_tables.specs.DependencyLists.{AreDependencyLists}
 use Rattle.dependency_order.specs.Nodes.{IsOrderOf, OrdersAll}
@@ -26,7 +26,7 @@ returns c =
     on_ok (λ (v : Vec ℕ Global). v.items ≡ filter (λ n. slice_index_or c.deref-in-Some-2.result.now n false) c.deref-in-Some.result.now)
     (λ (v : Vec ℕ Global). OrdersNumbers c.args.tables.now v.items) c.only_marked.result
     (λ v e. subst (OrdersNumbers c.args.tables.now) (sym e)
-      (used-ordered c.args.tables.now c.is_numbered.ensures c.deref.result.now listed c.deref-in-Some-2.result.now c.deref-in-Some.result.now
-        (subst (TellsUse c.args.tables.now) (sym c.deref-in-Some-2.ensures.value) c.in_ok-used.ensures)
-        (subst (OrdersAll c.deref.result.now) (sym c.deref-in-Some.ensures.value) ordered)))
+    (used-ordered c.args.tables.now c.is_numbered.ensures c.deref.result.now listed c.deref-in-Some-2.result.now c.deref-in-Some.result.now
+    (subst (TellsUse c.args.tables.now) (sym c.deref-in-Some-2.ensures.value) c.in_ok-used.ensures)
+    (subst (OrdersAll c.deref.result.now) (sym c.deref-in-Some.ensures.value) ordered)))
     c.only_marked.ensures

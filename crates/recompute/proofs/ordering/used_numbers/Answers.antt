@@ -2,8 +2,6 @@ use Rattle.std.proofs.Common.{List, Bool, ℕ, ◌<◌, sym, subst}
 use Rattle.std.specs.Prelude.{Vec}
 use Rattle.fc_base.specs.declared.ids.SlotId.{SlotId}
 use Rattle.fc_base.specs.Graph.{IsIn}
-use Rattle.document_model.specs.Slots.{slots}
-use Rattle.doc_tables.specs.Accessors.{AreNumbersOf}
 use Rattle.recompute.specs.Order.{MarksAll, TellsUse}
 use Rattle.recompute.proofs.OrderLemmas.{listed-below, marks-tell}
 use Rattle.recompute.proofs.ReadingLemmas.{on_ok}
@@ -18,5 +16,5 @@ pub returns : goal.returns
 returns c =
     on_ok (λ (v : Vec Bool _). MarksAll c.deref.result.now v.items) (λ (v : Vec Bool _). TellsUse c.args.tables.now v.items) c.marked.result
     (λ v marked. marks-tell c.args.tables.now c.is_numbered.ensures c.in_ok-slots.slots.items v.items c.in_ok-slots.ensures
-      (subst (λ (q : List SlotId). MarksAll q v.items) c.deref.ensures.value marked))
+    (subst (λ (q : List SlotId). MarksAll q v.items) c.deref.ensures.value marked))
     c.marked.ensures

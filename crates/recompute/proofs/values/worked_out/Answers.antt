@@ -1,8 +1,5 @@
-use Rattle.std.proofs.Common.{◌≡◌, ◌≤◌, ◌++◌, ℕ, List, length, take, drop, sym, subst, arith}
-use Rattle.std.specs.Prelude.{Option}
+use Rattle.std.proofs.Common.{◌≡◌, ◌++◌, length, take, drop, sym, subst, arith}
 use Rattle.std.proofs.lemmas.Grind.{common_steps}
-use Rattle.property_types.specs.Values.{Outcome}
-use Rattle.document_outcomes.specs.Full.{Meanings}
 use Rattle.recompute.specs.Kept.{AreFull}
 use Rattle.recompute.specs.Order.{OrdersNumbers}
 use Rattle.recompute.proofs.CountLemmas.{nodes-le, trees-le, distinct-different}
