@@ -8,6 +8,7 @@ pub mod ResolveLemmas
 pub mod DependencyLemmas
 pub mod ListLemmas
 pub mod VarSetsHeld
+pub mod FoundHeld
 pub mod NumberedHeld
 pub mod CountLemmas
 pub mod PlaceLemmas
