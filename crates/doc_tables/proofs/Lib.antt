@@ -16,3 +16,4 @@ pub mod HeldBy
 pub mod ChangeLists
 pub mod ChangeLemmas
 pub mod ChangeHeld
+pub mod CopyLemmas

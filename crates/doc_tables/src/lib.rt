@@ -5,6 +5,7 @@ mod changes;
 mod counts;
 mod dependencies;
 mod entry;
+mod insertion;
 mod objects;
 mod rule;
 mod slots;
