@@ -8,11 +8,13 @@ pub mod ResolveLemmas
 pub mod DependencyLemmas
 pub mod ListLemmas
 pub mod VarSetsHeld
+pub mod FoundHeld
 pub mod NumberedHeld
 pub mod CountLemmas
 pub mod PlaceLemmas
 pub mod ShownLemmas
 pub mod HeldBy
+pub mod DistinctHeld
 pub mod ChangeLists
 pub mod ChangeLemmas
 pub mod ChangeHeld

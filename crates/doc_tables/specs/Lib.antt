@@ -3,6 +3,7 @@ pub mod Accessors
 pub mod DependencyLists
 pub mod Primitives
 pub mod VarSets
+pub mod FindsAll
 pub mod Held
 pub mod Entries
 pub mod Counted

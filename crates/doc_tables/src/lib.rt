@@ -5,6 +5,7 @@ mod changes;
 mod counts;
 mod dependencies;
 mod entry;
+mod finds_all;
 mod insertion;
 mod objects;
 mod rule;

@@ -1,4 +1,7 @@
 ghost use Rattle.std.specs.Prelude.{◌≡◌, [], map, IfOk};
+ghost use Rattle.std.specs.List.{IsDistinct};
+ghost use Rattle.object_paths.specs.Slots.{same_slot};
+ghost use Rattle.document_model.specs.Slots.{slots};
 ghost use Rattle.doc_tables.specs.Held.{document_held};
 ghost use Rattle.doc_tables.specs.Numbered.{IsNumbered};
 ghost use Rattle.doc_tables.specs.Shown.{shown};
@@ -102,6 +105,13 @@ impl Tables {
         ensures { IsNumbered self.now }
     {
         slot_test_is_exact();
+        let _ = &self.objects;
+    }
+
+    /// Nothing to do: no slot stands twice in the document.
+    pub fn has_distinct_slots(&self)
+        ensures { IsDistinct same_slot (slots self.now.document) }
+    {
         let _ = &self.objects;
     }
 }

@@ -1,11 +1,7 @@
 -- How large a document may be.
-use Rattle.std.specs.Prelude.{ℕ, Bool, false, ◌||◌, nat_lt, List, length, is_some, Result, Ok, Err}
+use Rattle.std.specs.Prelude.{ℕ, Bool, ◌||◌, nat_lt, length}
 use Rattle.std.specs.List.{list_any}
-use Rattle.expr_grammar.specs.declared.token.Placed.{Placed}
-use Rattle.expr_grammar.specs.Lexemes.{lexed}
-use Rattle.expr_grammar.specs.Limits.{excess}
-use Rattle.expr_grammar.specs.Printed.{printed}
-use Rattle.expr_grammar.specs.Tree.{Tree}
+use Rattle.expr_grammar.specs.Large.{is_too_large}
 use Rattle.document_model.specs.Counts.{expressions, slots_and_empty_cells, nodes_of_document, dependencies_of_document}
 use Rattle.document_model.specs.Document.{Document}
 
@@ -20,15 +16,6 @@ most_nodes = 262144
 
 abbrev pub most_dependencies : ℕ
 most_dependencies = 4194304
-
--- lexemes with one token too many, or one bracket open too many
-abbrev pub are_too_many : Result (List Placed) ℕ → Bool
-are_too_many (Ok lexemes) = is_some (excess lexemes)
-are_too_many (Err place) = false
-
--- an expression whose printed form is too large
-abbrev pub is_too_large : Tree → Bool
-is_too_large e = are_too_many (lexed (printed e))
 
 -- an expression of the document is too large
 abbrev pub has_too_large : Document → Bool

@@ -137,19 +137,3 @@ impl Expr {
         }
     }
 }
-
-#[cfg(test)]
-mod tests {
-    use super::*;
-    use std::test::Fail;
-
-    #[test]
-    fn negates(rt: HostRuntime) -> Result<(), Fail> {
-        let flag = Expr {
-            node: Node::Flag(true),
-        };
-        let negated = flag.negated(rt.alloc())?;
-        assert_eq!(rt; negated.node_count(), 2);
-        Ok(())
-    }
-}

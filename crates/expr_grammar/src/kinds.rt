@@ -89,7 +89,7 @@ fn token(
 }
 
 /// The tokens of the lexemes: each identifier is told apart by its neighbours.
-pub(crate) fn tokens(alloc: Global, lexemes: &[Placed]) -> Result<Vec<Token>, AllocError>
+pub fn tokens(alloc: Global, lexemes: &[Placed]) -> Result<Vec<Token>, AllocError>
     ensures { IfOk result (λ ts. ts.items ≡ tokens_of lexemes.now) }
 {
     let mut tokens = Vec::new(alloc);

@@ -7,9 +7,7 @@ ghost use Rattle.expr_grammar.specs.declared.lexing.LexFault.TheVariants.{Memory
 
 mod numeral;
 mod quoted;
-mod signs;
-#[cfg(test)]
-mod tests;
+pub(crate) mod signs;
 mod word;
 
 use crate::token::{Lexeme, Placed};
@@ -17,14 +15,16 @@ use numeral::numeral;
 use quoted::{opened, quoted};
 use signs::{sign_at, sign_text};
 use std::alloc::{AllocError, AllocFailed, Global};
+use thiserror::Error;
 use word::word;
 
 /// Why a text was not read as lexemes.
-#[derive(Debug, Drop)]
-pub(crate) enum LexFault {
+#[derive(Debug, Drop, Error)]
+pub enum LexFault {
     /// No lexeme begins at the place, the number of bytes in front of it.
+    #[error("no token at {0}")]
     Place(u64),
-    /// There was no memory.
+    #[error("out of memory")]
     Memory(AllocError),
 }
 
@@ -81,9 +81,9 @@ fn lexeme(alloc: Global, text: &str) -> Result<Option<(Lexeme, usize)>, AllocErr
     }
 }
 
-/// The lexemes of the text, each the longest that begins at its place, or the first place where
-/// none begins.
-pub(crate) fn lexemes(alloc: Global, text: &str) -> Result<Vec<Placed>, LexFault>
+/// The lexemes of a text with their places, each the longest that begins at its place, or the first
+/// place where none begins. Spaces and tabs may stand between them.
+pub fn lexemes(alloc: Global, text: &str) -> Result<Vec<Placed>, LexFault>
     ensures { GivesLexed result (lexed text.now) }
 {
     let mut lexemes = Vec::new(alloc);

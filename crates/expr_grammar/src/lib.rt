@@ -21,13 +21,13 @@ mod reference;
 mod renaming;
 mod sign;
 mod stop;
-#[cfg(test)]
-mod tests;
 mod tightness;
 mod token;
 
 pub use expr::{Argument, Expr, Node, UnitPower};
 pub use fault::{ExprCause, ExprFault, ParseFault};
+pub use kinds::tokens;
+pub use lexing::{LexFault, lexemes};
 pub use limits::is_too_large;
 pub use operators::{AggregateOp, BinaryOp, CompareOp, FunctionOp};
 pub use parsing::parse;

@@ -320,24 +320,3 @@ pub fn print(alloc: Global, tree: &Expr) -> Result<String, AllocError>
     push_tree(alloc, tree, &mut text)?;
     Ok(text)
 }
-
-#[cfg(test)]
-mod tests {
-    use super::*;
-    use fc_base::Name;
-    use std::test::Fail;
-
-    #[test]
-    fn prints_a_tree(rt: HostRuntime) -> Result<(), Fail> {
-        let unit = Name::read(rt.alloc(), "mm")?;
-        let cubic = UnitPower { unit, exponent: 3 };
-        let base = Expr {
-            node: Node::Literal(Amount::of_raw(2_500_000_000)?, Some(cubic)),
-        };
-        let power = Expr {
-            node: Node::Power(Box::new(rt.alloc(), base)?, -2),
-        };
-        assert_eq!(rt; print(rt.alloc(), &power)?.as_str(), "(2.5 mm^3)^-2");
-        Ok(())
-    }
-}

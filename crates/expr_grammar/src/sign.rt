@@ -1,3 +1,8 @@
+ghost use Rattle.std.specs.Prelude.{◌≡◌};
+ghost use Rattle.expr_grammar.specs.Signs.{sign_text};
+
+use crate::lexing::signs::sign_text;
+
 /// A sign of an expression.
 #[derive(Clone, Copy, Debug, PartialEq, Eq)]
 pub enum Sign {
@@ -39,4 +44,13 @@ pub enum Sign {
     Close,
     /// `.`
     Dot,
+}
+
+impl Sign {
+    /// How it is written.
+    pub fn text(self) -> &'static str
+        ensures { result.now ≡ sign_text self }
+    {
+        sign_text(self)
+    }
 }

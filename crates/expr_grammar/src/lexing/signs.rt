@@ -27,7 +27,7 @@ const SIGNS: [Sign; 19] = [
 ];
 
 /// How the sign is written.
-pub(super) fn sign_text(sign: Sign) -> &'static str
+pub(crate) fn sign_text(sign: Sign) -> &'static str
     ensures { result.now ≡ sign_text sign }
 {
     match sign {

@@ -1,0 +1,10 @@
+use Rattle.std.proofs.Common.{◌≡◌, drop}
+use Rattle.document_model.specs.Slots.{slots}
+use Rattle.document_outcomes.specs.Faults.{first_some}
+use Rattle.doc_rules.specs.KindFaults.{unknown_fault}
+use Rattle.doc_rules.proofs.references.check_references.Given as goal
+
+-- no slot so far has a fault
+abbrev pub invariant-loop-slot : goal.invariant-loop-slot
+invariant-loop-slot l =
+    first_some (unknown_fault l.tables.document) (drop l.slot-index (slots l.tables.document)) ≡ first_some (unknown_fault l.tables.document) (slots l.tables.document)

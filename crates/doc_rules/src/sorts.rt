@@ -1,0 +1,177 @@
+ghost use Rattle.std.specs.Prelude.{◌≡◌, ◌<◌, ◌^◌, IfOk, IsSome, Some, option_map, length};
+ghost use Rattle.std.specs.Option.{option_and_then};
+ghost use Rattle.property_types.specs.Types.{sort_of_type};
+ghost use Rattle.expr_eval.specs.Sorts.{sort_of};
+ghost use Rattle.expr_grammar.specs.References.{reference_count};
+ghost use Rattle.document_model.specs.Slots.{slots, type_of};
+ghost use Rattle.document_outcomes.specs.Faults.{sort_faults};
+ghost use Rattle.document_outcomes.specs.Sorts.{local_sort, sort_reading};
+ghost use Rattle.doc_tables.specs.Accessors.{AreNumbersOf, tree_at};
+ghost use Rattle.doc_tables.specs.Numbered.{slot_at};
+ghost use Rattle.doc_rules.specs.Found.{MeetsFault};
+ghost use Rattle.doc_rules.specs.KindFaults.{fault_at, fault_of_sort};
+ghost use Rattle.doc_rules.specs.SortTables.{AreSorts, MarksNumbers, OrdersNumbers, object_behind, sort_by_number};
+
+use crate::fault::CheckFault;
+use crate::sort_rules::{given_as, number_of_cause, own_as, wanted_as};
+use crate::sorts_behind::{SortsBehind, sort_in};
+use crate::subjects::slot_fault;
+use doc_tables::Tables;
+use expr_eval::{SortCause, SortFault, SortOutcome, sort_of};
+use expr_grammar::Expr;
+use fc_base::SlotId;
+use property_types::{Sort, ValueFault};
+use std::alloc::{AllocError, Global};
+
+/// The sort of the type of a slot; none for a cell.
+fn wanted_sort(tables: &Tables, slot: SlotId) -> Option<Sort>
+    requires { IsSome (slot_at tables.now slot.0) }
+    ensures { result ≡ option_map sort_of_type (option_and_then (type_of tables.now.document) (slot_at tables.now slot.0)) }
+{
+    tables.holds_var_sets();
+    tables.type_of(slot).map(|prop| prop.sort())
+}
+
+/// The sort of a slot's expression by the sorts so far.
+fn sort_of_tree(
+    alloc: Global,
+    tables: &Tables,
+    sorts: &[SortOutcome],
+    slot: SlotId,
+    tree: &Expr,
+) -> Result<SortOutcome, AllocError>
+    requires live { IsSome (slot_at tables.now slot.0) }
+    requires bound { tree_at tables.now slot.0 ≡ Some tree.now }
+    requires few { reference_count tree.now < 2 ^ 32 }
+    ensures { IfOk result (λ found. option_map (λ o. sort_of
+        (sort_reading tables.now.document o tree.now (sort_by_number tables.now sorts.now)) 0 tree.now)
+        (object_behind tables.now slot.0) ≡ Some found) }
+{
+    tables.is_numbered();
+    tables.holds_var_sets();
+    let references = tables.references_of(alloc, slot)?;
+    let env = SortsBehind {
+        references: &references,
+        sorts,
+        outcome: Err(ValueFault::Range),
+    };
+    match sort_of(alloc, tree, &env) {
+        Ok(sort) => Ok(Ok(sort)),
+        Err(SortFault::Cause(cause)) => Ok(Err(cause)),
+        Err(SortFault::Memory(error)) => Err(error),
+    }
+}
+
+/// The sort of a slot by the sorts so far.
+fn sort_of_slot(
+    alloc: Global,
+    tables: &Tables,
+    sorts: &[SortOutcome],
+    slot: SlotId,
+) -> Result<SortOutcome, AllocError>
+    requires { IsSome (slot_at tables.now slot.0) }
+    ensures { IfOk result (λ found. option_map (λ s. local_sort tables.now.document s (sort_by_number tables.now sorts.now))
+        (slot_at tables.now slot.0) ≡ Some found) }
+{
+    let wanted = wanted_sort(tables, slot);
+    if let Some(value) = tables.own_value(slot) {
+        return Ok(own_as(wanted, value));
+    }
+    match tables.expression_of(slot) {
+        Some(tree) => {
+            let found = sort_of_tree(alloc, tables, sorts, slot, tree)?;
+            Ok(given_as(wanted, found))
+        }
+        None => Ok(wanted_as(wanted)),
+    }
+}
+
+/// Which numbers below a limit are those of slots.
+fn numbers_in_use(
+    alloc: Global,
+    tables: &Tables,
+    listed: &[SlotId],
+) -> Result<Vec<bool>, AllocError>
+    requires { AreNumbersOf tables.now listed.now (slots tables.now.document) }
+    ensures { IfOk result (λ marks. MarksNumbers tables.now marks.items) }
+{
+    tables.is_numbered();
+    let mut marks = vec![in alloc; false; tables.slot_limit() as usize]?;
+    for slot in listed {
+        marks[slot.0 as usize] = true;
+    }
+    Ok(marks)
+}
+
+/// The sorts of all slots by their numbers, worked out behind those on which they depend.
+fn sorts_in_order(
+    alloc: Global,
+    tables: &Tables,
+    marks: &[bool],
+    order: &[u32],
+) -> Result<Vec<SortOutcome>, AllocError>
+    requires marks { MarksNumbers tables.now marks.now }
+    requires order { OrdersNumbers tables.now order.now }
+    ensures { IfOk result (λ sorts. AreSorts tables.now sorts.items) }
+{
+    tables.is_numbered();
+    let mut sorts = vec![in alloc; Err(SortCause::KindMismatch); marks.len()]?;
+    for number in order {
+        if marks[*number as usize] {
+            let sort = sort_of_slot(alloc, tables, &sorts, SlotId(*number))?;
+            sorts[*number as usize] = sort;
+        }
+    }
+    Ok(sorts)
+}
+
+/// Whether a slot has a sort.
+fn check_sort(
+    alloc: Global,
+    tables: &Tables,
+    sorts: &[SortOutcome],
+    slot: SlotId,
+) -> Result<(), CheckFault>
+    requires live { IsSome (slot_at tables.now slot.0) }
+    requires sorts { AreSorts tables.now sorts.now }
+    ensures { MeetsFault (fault_at tables.now (fault_of_sort tables.now.document) slot) result }
+{
+    match sort_in(sorts, slot.0) {
+        Ok(_) => Ok(()),
+        Err(cause) => Err(slot_fault(alloc, tables, number_of_cause(cause), slot)),
+    }
+}
+
+/// Whether all slots have sorts.
+fn check_each_sort(
+    alloc: Global,
+    tables: &Tables,
+    listed: &[SlotId],
+    sorts: &[SortOutcome],
+) -> Result<(), CheckFault>
+    requires order { AreNumbersOf tables.now listed.now (slots tables.now.document) }
+    requires sorts { AreSorts tables.now sorts.now }
+    ensures { MeetsFault (sort_faults tables.now.document) result }
+{
+    for slot in listed {
+        check_sort(alloc, tables, sorts, *slot)?;
+    }
+    Ok(())
+}
+
+/// Whether all slots have sorts, worked out in an order in which each slot stands behind those on
+/// which it depends.
+pub fn check_sorts(
+    alloc: Global,
+    tables: &Tables,
+    listed: &[SlotId],
+    order: &[u32],
+) -> Result<(), CheckFault>
+    requires slots { AreNumbersOf tables.now listed.now (slots tables.now.document) }
+    requires order { OrdersNumbers tables.now order.now }
+    ensures { MeetsFault (sort_faults tables.now.document) result }
+{
+    let marks = numbers_in_use(alloc, tables, listed).map_err(CheckFault::Memory)?;
+    let sorts = sorts_in_order(alloc, tables, &marks, order).map_err(CheckFault::Memory)?;
+    check_each_sort(alloc, tables, listed, &sorts)
+}

@@ -1,0 +1,20 @@
+use Rattle.std.proofs.Common.{◌≡◌, List, sym, subst}
+use Rattle.property_types.specs.Values.{Outcome}
+use Rattle.recompute.specs.Kept.{IsGiven}
+use Rattle.document_outcomes.specs.Full.{fitted}
+use Rattle.std.specs.Prelude.{Option, option_map}
+use Rattle.fc_base.specs.declared.ids.SlotId.{SlotId}
+use Rattle.doc_tables.specs.Accessors.{AreReached, reached_at}
+use Rattle.recompute.proofs.ReadingLemmas.{type-fits, given-fitted, on_ok}
+use Rattle.recompute.proofs.given.given_by_tree.Goals as goal
+
+pub fitted-requires : goal.fitted-requires
+fitted-requires g c = type-fits c.args.tables.now c.is_numbered.ensures c.holds_var_sets.ensures c.args.outcomes.now (λ p. p.now) c.type_of.result c.args.slot.0 c.type_of.ensures
+
+pub returns-clause-outcome : goal.returns-clause-outcome
+returns-clause-outcome g c =
+    on_ok (λ (o : Outcome). o ≡ fitted (option_map (λ p. p.now) c.type_of.result) c.in_ok-given.given) (IsGiven c.args.tables.now c.args.outcomes.now c.args.slot.0) c.fitted.result
+    (λ o fits.
+    given-fitted c.args.tables.now c.is_numbered.ensures c.holds_var_sets.ensures c.args.outcomes.now c.args.slot.0 c.args.tree.now c.deref.result.now
+    (option_map (λ p. p.now) c.type_of.result) c.in_ok-given.given o c.requires.tree (subst (λ (ids : List (Option SlotId)). AreReached c.args.tables.now ids (reached_at c.args.tables.now c.args.slot.0)) (sym c.deref.ensures.value) c.in_ok-reached.ensures) c.type_of.ensures c.in_ok-given.ensures.outcome fits)
+    c.fitted.ensures

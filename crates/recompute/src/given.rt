@@ -1,0 +1,71 @@
+ghost use Rattle.std.specs.Prelude.{◌≡◌, ◌+◌, ◌-◌, ◌<◌, ◌≤◌, ◌^◌, IfOk, IsSome, OnOk, Some, min};
+ghost use Rattle.expr_grammar.specs.Nodes.{node_count};
+ghost use Rattle.expr_grammar.specs.References.{reference_count};
+ghost use Rattle.doc_tables.specs.Accessors.{tree_at};
+ghost use Rattle.doc_tables.specs.Numbered.{slot_at};
+ghost use Rattle.recompute.specs.Kept.{IsGiven};
+ghost use Rattle.recompute.specs.Steps.{nodes_at, trees_at};
+
+use crate::behind::Behind;
+use crate::fitting::fitted;
+use doc_tables::Tables;
+use expr_eval::evaluate;
+use expr_grammar::Expr;
+use fc_base::{SlotId, Steps};
+use property_types::{Outcome, ValueFault};
+use std::alloc::{AllocError, Global};
+
+/// What the expression of a slot gives for the outcomes that are kept.
+fn given_by_tree<L>(
+    alloc: Global,
+    tables: &Tables,
+    slot: SlotId,
+    tree: &Expr,
+    outcomes: &[Option<Outcome>],
+    steps: &mut Steps<L>,
+) -> Result<Outcome, AllocError>
+    requires slot { IsSome (slot_at tables.now slot.0) }
+    requires tree { tree_at tables.now slot.0 ≡ Some tree.now }
+    requires references { reference_count tree.now < 2 ^ 32 }
+    requires counted { steps.old < 2 ^ 64 }
+    ensures outcome { IfOk result (IsGiven tables.now outcomes.now slot.0) }
+    ensures at_least { OnOk result (min (steps.old + 1) (2 ^ 64 - 1) ≤ steps.new) }
+    ensures at_most { steps.new ≤ min (steps.old + node_count tree.now) (2 ^ 64 - 1) }
+{
+    tables.is_numbered();
+    tables.holds_var_sets();
+    let reached = tables.references_of(alloc, slot)?;
+    let behind = Behind {
+        reached: &reached,
+        outcomes,
+        unknown: Err(ValueFault::Range),
+    };
+    let given = evaluate(alloc, tree, &behind, steps)?;
+    fitted(alloc, tables.type_of(slot), given)
+}
+
+/// What the rule of a slot gives for the outcomes that are kept. A slot without a rule would have a
+/// fault; there is none.
+pub fn given<L>(
+    alloc: Global,
+    tables: &Tables,
+    slot: SlotId,
+    outcomes: &[Option<Outcome>],
+    steps: &mut Steps<L>,
+) -> Result<Outcome, AllocError>
+    requires slot { IsSome (slot_at tables.now slot.0) }
+    requires counted { steps.old < 2 ^ 64 }
+    ensures outcome { IfOk result (IsGiven tables.now outcomes.now slot.0) }
+    ensures at_least { OnOk result (min (steps.old + trees_at tables.now slot.0) (2 ^ 64 - 1) ≤ steps.new) }
+    ensures at_most { steps.new ≤ min (steps.old + nodes_at tables.now slot.0) (2 ^ 64 - 1) }
+{
+    tables.is_numbered();
+    tables.holds_var_sets();
+    match tables.own_value(slot) {
+        Some(value) => Ok(Ok(value.copy(alloc)?)),
+        None => match tables.expression_of(slot) {
+            Some(tree) => given_by_tree(alloc, tables, slot, tree, outcomes, steps),
+            None => Ok(Err(ValueFault::Range)),
+        },
+    }
+}

@@ -1,0 +1,124 @@
+ghost use Rattle.std.specs.Prelude.{◌≡◌, ◌+◌, ◌-◌, ◌<◌, ◌≤◌, ◌^◌, List, [], length, min, option_map, IfOk, OnOk, OnErr};
+ghost use Rattle.document_model.specs.Counts.{expressions, nodes_of_document};
+ghost use Rattle.document_outcomes.specs.Called.{Entry, called};
+ghost use Rattle.document_outcomes.specs.Faults.{IsValid};
+ghost use Rattle.document_outcomes.specs.Full.{Meanings};
+ghost use Rattle.doc_tables.specs.Numbered.{at_number};
+ghost use Rattle.recompute.specs.Kept.{AreFull, faults_of};
+
+use crate::evaluation::{no_outcomes, work_out};
+use crate::faults::fault_count;
+use crate::kept::{copied, kept_at};
+use crate::ordering::evaluation_order;
+use doc_tables::Tables;
+use fc_base::{SlotId, Steps};
+use property_types::{Outcome, Outcomes};
+use std::alloc::{AllocError, Global};
+use std::marker::Model;
+
+/// The outcomes of slots, by their numbers. They are seen as a list, none where none is kept.
+#[derive(Drop)]
+pub struct Values {
+    outcomes: Vec<Option<Outcome>>,
+}
+
+impl Model for Values {
+    ghost use Rattle.std.specs.Prelude.{List, Option};
+    ghost use Rattle.property_types.specs.Values.{Outcome};
+
+    ghost Value = { List (Option Outcome) };
+
+    ghost view = { λ v. v.outcomes.items };
+}
+
+/// What a recompute has done.
+#[derive(Clone, Copy, Debug, PartialEq, Eq)]
+pub struct Report {
+    /// How many features were called.
+    pub calls: u64,
+    /// How many slots have a fault for an outcome.
+    pub faults: u64,
+}
+
+/// The outcomes of all slots, by their numbers, worked out from nothing.
+fn worked_out<L>(
+    alloc: Global,
+    tables: &Tables,
+    steps: &mut Steps<L>,
+) -> Result<Vec<Option<Outcome>>, AllocError>
+    requires valid { IsValid tables.now.document }
+    requires counted { steps.old < 2 ^ 64 }
+    ensures outcomes { IfOk result (λ v. (m : Meanings) → AreFull m tables.now v.items) }
+    ensures at_least { OnOk result (min (steps.old + length (expressions tables.now.document)) (2 ^ 64 - 1) ≤ steps.new) }
+    ensures at_most { steps.new ≤ min (steps.old + nodes_of_document tables.now.document) (2 ^ 64 - 1) }
+{
+    tables.is_numbered();
+    tables.holds_var_sets();
+    tables.has_distinct_slots();
+    let order = evaluation_order(alloc, tables)?;
+    let mut outcomes = no_outcomes(alloc, tables.slot_limit())?;
+    work_out(alloc, tables, &order, &mut outcomes, steps)?;
+    Ok(outcomes)
+}
+
+impl Values {
+    /// No outcomes.
+    pub fn new(alloc: Global) -> Values
+        ensures { result ≡ [] }
+    {
+        Values {
+            outcomes: Vec::new(alloc),
+        }
+    }
+
+    /// The outcome of a slot; none exactly where none is kept.
+    pub fn peek(&self, slot: SlotId) -> Option<&Outcome>
+        ensures { option_map (λ o. o.now) result ≡ at_number self.now slot.0 }
+    {
+        kept_at(&self.outcomes, slot)
+    }
+
+    /// Equal outcomes.
+    pub fn copy(&self, alloc: Global) -> Result<Values, AllocError>
+        ensures { IfOk result (λ values. values ≡ self.now) }
+    {
+        Ok(Values {
+            outcomes: copied(alloc, &self.outcomes)?,
+        })
+    }
+
+    /// Works the outcome of each slot out from nothing: each once, behind those that it depends on. Of
+    /// the outcomes that were there before nothing is left; without memory they all stay.
+    pub fn recompute<L>(
+        &mut self,
+        tables: &Tables,
+        steps: &mut Steps<L>,
+    ) -> Result<Report, AllocError>
+        requires valid { IsValid tables.now.document }
+        ensures outcomes { OnOk result ((m : Meanings) → AreFull m tables.now self.new) }
+        ensures calls { IfOk result (λ report. (m : Meanings) (last : List Entry) → report.calls ≡ length (called m last tables.now.document)) }
+        ensures faults { IfOk result (λ report. (m : Meanings) → report.faults ≡ faults_of m tables.now.document) }
+        ensures unchanged { OnErr result (self.new ≡ self.old) }
+        ensures at_least { OnOk result (min (steps.old + length (expressions tables.now.document)) (2 ^ 64 - 1) ≤ steps.new) }
+        ensures at_most { steps.new ≤ min (steps.old + nodes_of_document tables.now.document) (2 ^ 64 - 1) }
+    {
+        let _count = steps.count();
+        let alloc = *self.outcomes.allocator();
+        tables.is_numbered();
+        tables.holds_var_sets();
+        let outcomes = worked_out(alloc, tables, steps)?;
+        let faults = fault_count(alloc, tables, &outcomes)?;
+        self.outcomes = outcomes;
+        Ok(Report { calls: 0, faults })
+    }
+}
+
+impl Outcomes for Values {
+    ghost use Rattle.doc_tables.specs.Numbered.{at_number};
+
+    ghost outcomes = { λ values slot. at_number values slot.0 };
+
+    fn outcome(&self, slot: SlotId) -> Option<&Outcome> {
+        self.peek(slot)
+    }
+}

@@ -1,0 +1,7 @@
+//! Rows worked out by hand, to which the public calls of the crates are held.
+#![tactic(auto)]
+
+#[cfg(test)]
+mod expressions;
+#[cfg(test)]
+mod lexemes;
