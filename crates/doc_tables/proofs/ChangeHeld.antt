@@ -5,7 +5,7 @@ use Rattle.std.specs.List.{find, list_any}
 use Rattle.std.specs.Map.{keys_of, lookup}
 use Rattle.std.specs.Option.{option_and_then, option_map, option_map_or}
 use Rattle.std.proofs.lemmas.Bool.{false≢true}
-use Rattle.std.proofs.lemmas.List.{length-map}
+use Rattle.std.proofs.lemmas.List.{length-map, map-append}
 use Rattle.std.proofs.lemmas.Option.{slice_get-map, get_or_from_slice_get}
 use Rattle.indexmap.specs.IndexMap.{get}
 use Rattle.object_paths.specs.declared.slot_name.SlotName.TheVariants.{Plain}
@@ -69,6 +69,11 @@ pub fresh : (name : List ℕ) (entry : PropertyEntry) → entry.prop ≢ prop.Pl
 fresh name entry one zero = λ j. record (new_property name entry.prop) {
   contents = (ap (λ (c : Content). c ∷ []) zero ∙ sym (ap (map (λ slot. Own (zero_value slot.1))) (one_slot name entry.prop one))) j;
 }
+
+-- an object without properties behind the others
+pub shown-added : (es us : List Owned) (name : List ℕ) (entry : ObjectEntry) → us ≡ es ++ (name, entry) ∷ [] → entry.properties.entries ≡ [] → map shown us ≡ map shown es ++ (name, entry.label, []) ∷ []
+shown-added es us name entry added empty =
+    ap (map shown) added ∙ map-append shown es ((name, entry) ∷ []) ∙ ap (λ (l : List Named). map shown es ++ (name, entry.label, l) ∷ []) empty
 
 module _ (v : Numbered) (t : Inside) (held : IsHeld t) (is : numbered_held t ≡ v) where
   seen : numbered_by (map shown t.objects.entries) t.places.items ≡ v

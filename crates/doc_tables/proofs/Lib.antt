@@ -18,3 +18,4 @@ pub mod DistinctHeld
 pub mod ChangeLists
 pub mod ChangeLemmas
 pub mod ChangeHeld
+pub mod CopyLemmas

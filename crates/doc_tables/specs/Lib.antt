@@ -8,3 +8,4 @@ pub mod Held
 pub mod Entries
 pub mod Counted
 pub mod Shown
+pub mod Sample

@@ -12,6 +12,7 @@ ghost use Rattle.doc_tables.specs.Primitives.{lacks_property, with_content_at, w
 ghost use Rattle.doc_tables.specs.Shown.{change_at, object_with, shown, with_entry};
 
 use crate::entry::{ObjectEntry, PropertyEntry, SlotPlace};
+use crate::insertion::{insert_object, insert_property};
 use crate::tables::Tables;
 use document_model::{Content, ObjectKind};
 use fc_base::{Label, Name, ObjectId, SlotId};
@@ -32,8 +33,7 @@ fn push_property(
     ensures unchanged { OnErr result (map shown objects.new.entries ≡ map shown objects.old.entries) }
 {
     let object = &mut objects[place];
-    object.properties.insert(name, entry)?;
-    Ok(())
+    insert_property(&mut object.properties, name, entry)
 }
 
 /// Puts another content into the property at a place.
@@ -66,8 +66,7 @@ impl Tables {
     {
         let number = self.objects.len() as u32;
         let properties = IndexMap::new(*self.objects.allocator());
-        self.objects
-            .insert(name, ObjectEntry { label, properties })?;
+        insert_object(&mut self.objects, name, ObjectEntry { label, properties })?;
         Ok(ObjectId(number))
     }
 

@@ -1,7 +1,10 @@
+ghost use Rattle.std.specs.Prelude.{◌≡◌, IfOk};
+
 use document_model::Content;
 use fc_base::{Label, Name, SlotId};
 use indexmap::IndexMap;
 use property_types::PropType;
+use std::alloc::{AllocError, Global};
 
 /// A dynamic property of one slot: the slot's number, the type, and what stands in it.
 #[derive(Drop)]
@@ -23,4 +26,27 @@ pub struct ObjectEntry {
 pub struct SlotPlace {
     pub object: usize,
     pub property: usize,
+}
+
+/// An equal content.
+fn copy_content(alloc: Global, content: &Content) -> Result<Content, AllocError>
+    ensures { IfOk result (λ copy. copy ≡ content.now) }
+{
+    match content {
+        Content::Own(value) => Ok(Content::Own(value.copy(alloc)?)),
+        Content::Bound(expression) => Ok(Content::Bound(expression.copy(alloc)?)),
+    }
+}
+
+impl PropertyEntry {
+    /// An equal entry.
+    pub(crate) fn copy(&self, alloc: Global) -> Result<PropertyEntry, AllocError>
+        ensures { IfOk result (λ copy. copy ≡ self.now) }
+    {
+        Ok(PropertyEntry {
+            slot: self.slot,
+            prop: self.prop.copy(alloc)?,
+            content: copy_content(alloc, &self.content)?,
+        })
+    }
 }

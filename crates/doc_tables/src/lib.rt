@@ -6,10 +6,13 @@ mod counts;
 mod dependencies;
 mod entry;
 mod finds_all;
+mod insertion;
 mod objects;
 mod rule;
 mod slots;
 mod tables;
+#[cfg(test)]
+mod tests;
 
 pub use entry::{ObjectEntry, PropertyEntry, SlotPlace};
 pub use rule::Rule;

@@ -1,16 +1,18 @@
-ghost use Rattle.std.specs.Prelude.{◌≡◌, []};
+ghost use Rattle.std.specs.Prelude.{◌≡◌, [], map, IfOk};
 ghost use Rattle.std.specs.List.{IsDistinct};
 ghost use Rattle.object_paths.specs.Slots.{same_slot};
 ghost use Rattle.document_model.specs.Slots.{slots};
 ghost use Rattle.doc_tables.specs.Held.{document_held};
 ghost use Rattle.doc_tables.specs.Numbered.{IsNumbered};
+ghost use Rattle.doc_tables.specs.Shown.{shown};
 ghost use Rattle.doc_tables.specs.VarSets.{HoldsVarSets};
 
-use crate::entry::{ObjectEntry, SlotPlace};
+use crate::entry::{ObjectEntry, PropertyEntry, SlotPlace};
+use crate::insertion::{insert_object, insert_property};
 use fc_base::Name;
 use indexmap::IndexMap;
 use object_paths::laws::slot_test_is_exact;
-use std::alloc::Global;
+use std::alloc::{AllocError, Global};
 use std::marker::Model;
 
 /// A document of VarSets whose properties have one slot each. Objects and slots have numbers, which
@@ -38,6 +40,39 @@ impl Model for Tables {
     ghost invariant = { IsHeld };
 }
 
+/// The same properties.
+fn copy_properties(
+    alloc: Global,
+    properties: &IndexMap<Name, PropertyEntry>,
+) -> Result<IndexMap<Name, PropertyEntry>, AllocError>
+    ensures { IfOk result (λ copies. copies.entries ≡ properties.now.entries) }
+{
+    let mut copies = IndexMap::new(alloc);
+    for (name, entry) in properties {
+        let name = name.copy(alloc)?;
+        let entry = entry.copy(alloc)?;
+        insert_property(&mut copies, name, entry)?;
+    }
+    Ok(copies)
+}
+
+/// The same objects.
+fn copy_objects(
+    alloc: Global,
+    objects: &IndexMap<Name, ObjectEntry>,
+) -> Result<IndexMap<Name, ObjectEntry>, AllocError>
+    ensures { IfOk result (λ copies. map shown copies.entries ≡ map shown objects.now.entries) }
+{
+    let mut copies = IndexMap::new(alloc);
+    for (name, entry) in objects {
+        let name = name.copy(alloc)?;
+        let label = entry.label.copy(alloc)?;
+        let properties = copy_properties(alloc, &entry.properties)?;
+        insert_object(&mut copies, name, ObjectEntry { label, properties })?;
+    }
+    Ok(copies)
+}
+
 impl Tables {
     /// The tables of a document without objects.
     pub fn new(alloc: Global) -> Tables
@@ -47,6 +82,15 @@ impl Tables {
             objects: IndexMap::new(alloc),
             places: Vec::new(alloc),
         }
+    }
+
+    /// Equal tables, with the same numbers.
+    pub fn copy(&self, alloc: Global) -> Result<Tables, AllocError>
+        ensures { IfOk result (λ tables. tables ≡ self.now) }
+    {
+        let objects = copy_objects(alloc, &self.objects)?;
+        let places = Vec::from_slice(alloc, self.places.as_slice())?;
+        Ok(Tables { objects, places })
     }
 
     /// Nothing to do: the objects are VarSets, and the expressions those of their slots.
