@@ -12,6 +12,8 @@ mod sort_rules;
 mod sorts;
 mod sorts_behind;
 mod subjects;
+#[cfg(test)]
+mod tests;
 mod values;
 
 pub use checking::check;
