@@ -1,3 +1,6 @@
+pub mod Commanded
+pub mod EditFaults
+pub mod Edits
 pub mod Refusals
 pub mod Found
 pub mod KindFaults

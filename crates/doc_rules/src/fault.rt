@@ -1,5 +1,9 @@
+ghost use Rattle.std.specs.Prelude.{◌≡◌, IfOk};
+ghost use Rattle.doc_rules.specs.Edits.{fault_told, refusal_of_fault};
+
+use crate::refusal::Refusal;
 use fc_base::TextValue;
-use std::alloc::AllocError;
+use std::alloc::{AllocError, Global};
 use thiserror::Error;
 
 /// A fault of a document: its number, and what has it. The subject is the path of a slot from
@@ -8,6 +12,24 @@ use thiserror::Error;
 pub struct DocFault {
     pub number: u8,
     pub subject: TextValue,
+}
+
+impl DocFault {
+    /// The refusal of a command because of the fault. An empty subject is left out.
+    pub fn refusal(&self, alloc: Global) -> Result<Refusal, AllocError>
+        ensures { IfOk result (λ r. r ≡ refusal_of_fault (fault_told self.now)) }
+    {
+        let subject = if self.subject.as_str().is_empty() {
+            None
+        } else {
+            Some(self.subject.copy(alloc)?)
+        };
+        Ok(Refusal {
+            number: self.number,
+            subject,
+            place: None,
+        })
+    }
 }
 
 /// Why a document was not found valid.

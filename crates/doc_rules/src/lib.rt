@@ -1,10 +1,16 @@
-//! The rules on whole documents: the first fault of a document, and why commands are refused.
+//! The rules on whole documents: the first fault of a document, edits, and why commands are refused.
 #![tactic(auto)]
 
 mod checking;
+mod closed;
+mod commanded;
 mod cycles;
+mod edit;
+mod edit_fault;
+mod editing;
 mod fault;
 mod labels;
+pub mod laws;
 mod limits;
 mod references;
 mod refusal;
@@ -17,5 +23,9 @@ mod tests;
 mod values;
 
 pub use checking::check;
+pub use commanded::slot_commanded;
+pub use edit::{Edit, EditText};
+pub use edit_fault::EditFault;
+pub use editing::apply_edit;
 pub use fault::{CheckFault, DocFault};
 pub use refusal::Refusal;

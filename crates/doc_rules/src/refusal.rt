@@ -1,5 +1,6 @@
 ghost use Rattle.std.specs.Prelude.{◌≡◌, ◌++◌, [], IfOk, IsTrue, OnOk, decimal};
 ghost use Rattle.std.specs.Option.{option_map_or};
+ghost use Rattle.doc_rules.specs.Commanded.{refused};
 ghost use Rattle.doc_rules.specs.Refusals.{behind_space, is_refusal_number, place_text, refusal_name, refusal_text};
 
 use fc_base::TextValue;
@@ -65,6 +66,17 @@ fn name_of(number: u8) -> &'static str
 }
 
 impl Refusal {
+    /// A refusal of that number, without a subject and a place.
+    pub fn of(number: u8) -> Refusal
+        ensures { result ≡ refused number }
+    {
+        Refusal {
+            number,
+            subject: None,
+            place: None,
+        }
+    }
+
     /// Its reply without the LF, such as `refused 14 Cycle V.a` or `refused 11 ExprSyntax at 2`. The
     /// number is one of those of refusals: 1 to 30, or 99.
     pub fn write(&self, alloc: Global) -> Result<Vec<u8>, AllocError>

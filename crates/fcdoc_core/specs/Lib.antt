@@ -2,8 +2,11 @@ pub mod Commands
 pub mod Delivery
 pub mod Headline
 pub mod Machine
+pub mod Opening
 pub mod Plans
 pub mod Replies
 pub mod Scripts
+pub mod Sessions
+pub mod Stepping
 pub mod Top
 pub mod Words

@@ -1,102 +1,129 @@
--- What a script means: a machine that runs command by command on whole documents.
-use Rattle.std.specs.Prelude.{ℕ, List, [], ◌∷◌, ◌++◌, Bool, true, false, ◌==◌, if◌then◌else◌, Option, None, Some, codes}
-use Rattle.std.specs.List.{flat_map}
-use Rattle.quantities.specs.Texts.{decimal_text}
-use Rattle.unit_signatures.specs.UnitTexts.{unit_text}
-use Rattle.property_types.specs.declared.value.Value.{Value}
-use Rattle.property_types.specs.declared.value.Value.TheVariants.{Number, Flag, Text}
+-- What a script means: a machine that runs command by command on whole documents, and works
+-- everything out from the document alone.
+use Rattle.std.specs.Prelude.{◌≡◌, ℕ, List, [], ◌∷◌, length, Bool, true, false, if◌then◌else◌, Option, None, Some, Result, Ok, Err}
+use Rattle.std.specs.Result.{is_err}
 use Rattle.object_paths.specs.declared.path.Path.{Path}
 use Rattle.object_paths.specs.Slots.{Slot}
-use Rattle.document_model.specs.Document.{Document, Object}
-use Rattle.document_model.specs.Resolution.{resolve}
+use Rattle.expr_grammar.specs.Printed.{printed}
+use Rattle.expr_eval.specs.Firsts.{on_one}
+use Rattle.document_model.specs.Counts.{expressions, nodes_of_document}
+use Rattle.document_model.specs.Document.{Document}
 use Rattle.document_model.specs.Slots.{Rule, rule_of, own, bound, inherit, global, output}
-use Rattle.fcdoc_file.specs.Lookups.{object_of_command}
+use Rattle.document_outcomes.specs.Called.{Entry, called, input_lists}
+use Rattle.document_outcomes.specs.Faults.{Fault, first_fault}
+use Rattle.document_outcomes.specs.Full.{Meanings, full}
+use Rattle.recompute.specs.Kept.{faults_of}
+use Rattle.doc_rules.specs.declared.refusal.Refusal.{Refusal}
+use Rattle.doc_rules.specs.Commanded.{refused, slot_commanded}
+use Rattle.doc_rules.specs.Edits.{Accepted, edited}
 use Rattle.fcdoc_core.specs.declared.command.Command.{Command}
-use Rattle.fcdoc_core.specs.declared.command.Command.TheVariants.{Get}
-use Rattle.fcdoc_core.specs.declared.reply.Refusal.{Refusal}
-use Rattle.fcdoc_core.specs.declared.reply.Refusal.TheVariants.{NoObject, NoProperty, NotBuilt}
+use Rattle.fcdoc_core.specs.declared.command.Command.TheVariants as command
+use Rattle.fcdoc_core.specs.declared.reply.Reply.{Reply}
+use Rattle.fcdoc_core.specs.declared.reply.Reply.TheVariants as reply
 use Rattle.fcdoc_core.specs.Commands.{command_of}
 
--- What a command answers: the value that was asked for, or a refusal.
-pub data Answer : Type 0 where
-  value : Value → Answer
-  refused : Refusal → Answer
-
--- What the machine keeps from command to command.
+-- What the machine keeps from command to command: the document, the entries of the features at the
+-- last recompute, and whether there was no edit since.
 pub record State : Type 0 where
   pub now : Document
+  pub last : List Entry
+  pub clean : Bool
 
 -- A state, and the answer that led to it.
 pub record Stepped : Type 0 where
   pub state : State
-  pub answer : Answer
+  pub answer : Result Reply Refusal
 
--- the value of a slot, by its rule; only own values are built
-abbrev pub answer_of_rule : Option Rule → Answer
-answer_of_rule None = refused NoProperty
-answer_of_rule (Some (own v)) = value v
-answer_of_rule (Some (bound e)) = refused NotBuilt
-answer_of_rule (Some (inherit s)) = refused NotBuilt
-answer_of_rule (Some (global k)) = refused NotBuilt
-answer_of_rule (Some (output k)) = refused NotBuilt
+-- the state of a document that was read
+abbrev pub opened : Document → State
+opened d = record { now = d; last = []; clean = false }
 
-abbrev pub answer_of_slot : Document → Option Slot → Answer
-answer_of_slot d None = refused NoProperty
-answer_of_slot d (Some s) = answer_of_rule (rule_of d s)
+-- ---- the commands
 
-abbrev pub answer_of_object : Document → Path → Option Object → Answer
-answer_of_object d p None = refused NoObject
-answer_of_object d p (Some o) = answer_of_slot d (resolve d o p)
+-- an answer that changes nothing
+abbrev pub asked : State → Result Reply Refusal → Stepped
+asked s answer = record { state = s; answer = answer }
+
+-- what is worked out of a slot, 28 where there was an edit since the last recompute
+abbrev pub worked_out : Meanings → State → Slot → Result Reply Refusal
+worked_out m s slot = if s.clean then Ok (reply.Value (full m s.now slot)) else Err (refused 28)
+
+-- the value of a slot by its rule: a value of its own at any time
+abbrev pub value_by_rule : Meanings → State → Slot → Option Rule → Result Reply Refusal
+value_by_rule m s slot None = worked_out m s slot
+value_by_rule m s slot (Some (own v)) = Ok (reply.Value (Ok v))
+value_by_rule m s slot (Some (bound e)) = worked_out m s slot
+value_by_rule m s slot (Some (inherit t)) = worked_out m s slot
+value_by_rule m s slot (Some (global k)) = worked_out m s slot
+value_by_rule m s slot (Some (output k)) = worked_out m s slot
 
 -- `get`: the value of the slot that the path names
-abbrev pub got : Document → Path → Answer
-got d p = answer_of_object d p (object_of_command d p.owner)
+abbrev pub got : Meanings → State → Path → Result Reply Refusal
+got m s path = on_one (λ slot. value_by_rule m s slot (rule_of s.now slot)) (slot_commanded s.now path)
 
--- one step. A line that is no command which is built is refused first
-abbrev pub step_by : State → Option Command → Stepped
-step_by s None = record { state = s; answer = refused NotBuilt }
-step_by s (Some (Get p)) = record { state = s; answer = got s.now p }
+-- the printed form of the expression to which a slot is bound
+abbrev pub expression_by_rule : Option Rule → Option (List ℕ)
+expression_by_rule None = None
+expression_by_rule (Some (own v)) = None
+expression_by_rule (Some (bound e)) = Some (printed e)
+expression_by_rule (Some (inherit t)) = None
+expression_by_rule (Some (global k)) = None
+expression_by_rule (Some (output k)) = None
 
-abbrev pub step : State → List ℕ → Stepped
-step s line = step_by s (command_of line)
+-- `expr`: the expression to which the slot is bound that the path names
+abbrev pub expression_told : State → Path → Result Reply Refusal
+expression_told s path = on_one (λ slot. Ok (reply.Expression (expression_by_rule (rule_of s.now slot)))) (slot_commanded s.now path)
+
+-- an edit: a refused one changes nothing
+abbrev pub edited_to : State → Result Accepted Refusal → Stepped
+edited_to s (Ok a) = record { state = record s { now = a.document; clean = false }; answer = Ok reply.Ok }
+edited_to s (Err r) = record { state = s; answer = Err r }
+
+-- `recompute`: how many features are called and how many slots have a fault
+abbrev pub recomputed : Meanings → State → Stepped
+recomputed m s = record {
+  state = record { now = s.now; last = input_lists m s.now; clean = true };
+  answer = Ok (reply.Recomputed (record { calls = length (called m s.last s.now); faults = faults_of m s.now }));
+}
+
+-- one command
+abbrev pub step : Meanings → State → Command → Stepped
+step m s (command.Edit edit) = edited_to s (edited s.now edit)
+step m s (command.Get path) = asked s (got m s path)
+step m s (command.Expression path) = asked s (expression_told s path)
+step m s command.Recompute = recomputed m s
+
+-- ---- lines
+
+-- a line: one that is no command which is built is refused
+abbrev pub step_by : Meanings → State → Option Command → Stepped
+step_by m s None = asked s (Err (refused 99))
+step_by m s (Some c) = step m s c
+
+abbrev pub step_line : Meanings → State → List ℕ → Stepped
+step_line m s line = step_by m s (command_of line)
 
 -- the answers to the lines, one after another
-abbrev pub answers : State → List (List ℕ) → List Answer
-answers s [] = []
-answers s (line ∷ lines) = (step s line).answer ∷ answers (step s line).state lines
-
--- ---- the texts of answers
-
--- the number and name of a refusal
-abbrev pub refusal_text : Refusal → List ℕ
-refusal_text NoObject = codes "2 NoObject"
-refusal_text NoProperty = codes "3 NoProperty"
-refusal_text NotBuilt = codes "99 NotBuilt"
-
--- a byte of a text in quotes: `"`, `\`, LF, CR and tab have a backslash in front
-abbrev pub escaped_byte : ℕ → List ℕ
-escaped_byte b =
-    if b == 34 then codes "\\\"" else if b == 92 then codes "\\\\" else if b == 10 then codes "\\n" else if b == 13 then codes "\\r"
-    else if b == 9 then codes "\\t" else b ∷ []
-
--- a space and the unit, where there is one
-abbrev pub behind_number : List ℕ → List ℕ
-behind_number [] = []
-behind_number (c ∷ cs) = 32 ∷ c ∷ cs
-
--- a number with its unit, a flag, or a text in quotes
-abbrev pub value_text : Value → List ℕ
-value_text (Number q) = decimal_text q.amount ++ behind_number (unit_text q.unit)
-value_text (Flag true) = codes "true"
-value_text (Flag false) = codes "false"
-value_text (Text t) = 34 ∷ (flat_map escaped_byte t ++ 34 ∷ [])
-
--- the line of an answer
-abbrev pub answer_text : Answer → List ℕ
-answer_text (value v) = codes "= " ++ (value_text v ++ codes "\n")
-answer_text (refused r) = codes "refused " ++ (refusal_text r ++ codes "\n")
+abbrev pub answers : Meanings → State → List (List ℕ) → List (Result Reply Refusal)
+answers m s [] = []
+answers m s (line ∷ lines) = (step_line m s line).answer ∷ answers m (step_line m s line).state lines
 
 -- an answer that is a refusal
-abbrev pub is_refusal : Answer → Bool
-is_refusal (value v) = false
-is_refusal (refused r) = true
+abbrev pub is_refusal : Result Reply Refusal → Bool
+is_refusal answer = is_err answer
+
+-- ---- the steps of a command
+
+-- the nodes of the expressions that a command may evaluate slot by slot
+abbrev pub most_steps : State → Command → ℕ
+most_steps s (command.Edit edit) = 0
+most_steps s (command.Get path) = 0
+most_steps s (command.Expression path) = 0
+most_steps s command.Recompute = nodes_of_document s.now
+
+-- the expressions that it evaluates
+abbrev pub least_steps : State → Command → ℕ
+least_steps s (command.Edit edit) = 0
+least_steps s (command.Get path) = 0
+least_steps s (command.Expression path) = 0
+least_steps s command.Recompute = length (expressions s.now)

@@ -1,32 +1,14 @@
 //! Reads the lines of a script as commands.
 
-ghost use Rattle.std.specs.Prelude.{◌≡◌, ◌==◌, map, filter, not, length, IfOk};
-ghost use Rattle.std.specs.List.{slice_split};
-ghost use Rattle.fcdoc_core.specs.Commands.{is_named_property, is_by_name, is_plain, words_of, get_of_word, command_of_words, command_of};
+ghost use Rattle.std.specs.Prelude.{◌≡◌};
+ghost use Rattle.std.specs.List.{list_any};
+ghost use Rattle.fcdoc_core.specs.Commands.{Reads, command_of, command_of_parts, is_by_name, is_control, is_named_property, is_plain, path_alone, path_and_text, property_of};
 
-use crate::command::Command;
+use crate::command::{Command, CommandFault};
+use crate::cutting::{behind_word, first_word, unspaced};
+use doc_rules::{Edit, EditText};
 use object_paths::{Owner, Path, PathFault, SlotName};
-use std::alloc::{AllocError, Global};
-
-fn parts_of<'a>(alloc: Global, line: &'a str) -> Result<Vec<&'a str>, AllocError>
-    ensures { IfOk result (λ v. map (λ p. p.now) v.items ≡ slice_split (λ c. c == 32) line.now) }
-{
-    line.split(' ').collect(alloc)
-}
-
-/// The words of a line, which spaces separate.
-fn words_of<'a>(alloc: Global, line: &'a str) -> Result<Vec<&'a str>, AllocError>
-    ensures { IfOk result (λ v. map (λ p. p.now) v.items ≡ words_of line.now) }
-{
-    let parts = parts_of(alloc, line)?;
-    let mut words = Vec::new(alloc);
-    for part in &parts {
-        if !part.is_empty() {
-            words.push(*part)?;
-        }
-    }
-    Ok(words)
-}
+use std::alloc::Global;
 
 fn is_by_name(owner: &Owner) -> bool
     ensures { result ≡ is_by_name owner.now }
@@ -40,38 +22,96 @@ fn is_plain(slot: &SlotName) -> bool
     matches!(slot, SlotName::Plain(_))
 }
 
-/// `get` of the path that a word spells, where it has the form NAME.PROP.
-fn get_of_word(alloc: Global, word: &str) -> Result<Option<Command>, AllocError>
-    ensures { IfOk result (λ c. c ≡ get_of_word word.now) }
+/// The path of the form NAME.PROP that a word spells.
+fn property_of(alloc: Global, word: &str) -> Result<Path, CommandFault>
+    ensures { Reads (property_of word.now) result }
 {
     match Path::read(alloc, word) {
         Ok(path) => {
             if is_by_name(&path.owner) && is_plain(&path.slot) {
-                Ok(Some(Command::Get(path)))
+                Ok(path)
             } else {
-                Ok(None)
+                Err(CommandFault::NotBuilt)
             }
         }
-        Err(PathFault::BadPath) => Ok(None),
-        Err(PathFault::Memory(error)) => Err(error),
+        Err(PathFault::BadPath) => Err(CommandFault::NotBuilt),
+        Err(PathFault::Memory(error)) => Err(CommandFault::Memory(error)),
     }
 }
 
-/// The command that words make, if it is one that is built.
-fn command_of_words(alloc: Global, words: &[&str]) -> Result<Option<Command>, AllocError>
-    ensures { IfOk result (λ c. c ≡ command_of_words (map (λ w. w.now) words.now)) }
+/// A path, with nothing behind it.
+fn path_alone(alloc: Global, target: &str, tail: &str) -> Result<Path, CommandFault>
+    ensures { Reads (path_alone (record { verb = []; target = target.now; tail = tail.now })) result }
 {
-    if words.len() == 2 && words[0] == "get" {
-        get_of_word(alloc, words[1])
+    if tail.is_empty() {
+        property_of(alloc, target)
     } else {
-        Ok(None)
+        Err(CommandFault::NotBuilt)
     }
 }
 
-/// The command of a line, if it is one that is built.
-pub(crate) fn command_of(alloc: Global, line: &str) -> Result<Option<Command>, AllocError>
-    ensures { IfOk result (λ c. c ≡ command_of line.now) }
+/// A path, with a text behind it that is not empty.
+fn path_and_text(
+    alloc: Global,
+    target: &str,
+    tail: &str,
+) -> Result<(Path, EditText), CommandFault>
+    ensures { Reads (path_and_text (record { verb = []; target = target.now; tail = tail.now })) result }
 {
-    let words = words_of(alloc, line)?;
-    command_of_words(alloc, &words)
+    if tail.is_empty() {
+        return Err(CommandFault::NotBuilt);
+    }
+    let path = property_of(alloc, target)?;
+    let text = EditText::of(alloc, tail).map_err(CommandFault::Memory)?;
+    Ok((path, text))
+}
+
+/// The command that the parts of a line make.
+fn command_of_parts(
+    alloc: Global,
+    verb: &str,
+    target: &str,
+    tail: &str,
+) -> Result<Command, CommandFault>
+    ensures { Reads (command_of_parts (record { verb = verb.now; target = target.now; tail = tail.now })) result }
+{
+    match verb {
+        "get" => Ok(Command::Get(path_alone(alloc, target, tail)?)),
+        "expr" => Ok(Command::Expression(path_alone(alloc, target, tail)?)),
+        "set" => {
+            let (path, expr) = path_and_text(alloc, target, tail)?;
+            Ok(Command::Edit(Edit::SetValue { path, expr }))
+        }
+        "bind" => {
+            let (path, expr) = path_and_text(alloc, target, tail)?;
+            Ok(Command::Edit(Edit::Bind { path, expr }))
+        }
+        "recompute" if target.is_empty() => Ok(Command::Recompute),
+        _ => Err(CommandFault::NotBuilt),
+    }
+}
+
+/// Whether a control character other than tab stands in the line.
+fn has_control(line: &str) -> bool
+    ensures { result ≡ list_any is_control line.now }
+{
+    line.as_bytes()
+        .iter()
+        .any(|byte| *byte < b' ' && *byte != b'\t')
+}
+
+impl Command {
+    /// Reads a line of a script: `get V.a`, `expr V.a`, `set V.a 2 mm`, `bind V.a 2 * V.b` or
+    /// `recompute`. NotBuilt comes exactly where it is none of these, or has a control character
+    /// other than tab.
+    pub fn read(alloc: Global, line: &str) -> Result<Command, CommandFault>
+        ensures { Reads (command_of line.now) result }
+    {
+        if has_control(line) {
+            return Err(CommandFault::NotBuilt);
+        }
+        let line = unspaced(line);
+        let rest = behind_word(line);
+        command_of_parts(alloc, first_word(line), first_word(rest), behind_word(rest))
+    }
 }

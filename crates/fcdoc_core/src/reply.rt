@@ -1,72 +1,65 @@
-ghost use Rattle.std.specs.Prelude.{◌≡◌, ◌++◌, IfOk, string_bytes, codes};
-ghost use Rattle.quantities.specs.Texts.{decimal_text};
-ghost use Rattle.fcdoc_core.specs.Machine.{refusal_text, answer_text, is_refusal};
+ghost use Rattle.std.specs.Prelude.{◌≡◌, IfOk};
+ghost use Rattle.fcdoc_core.specs.Replies.{reply_text};
 
-use arrayvec::ArrayString;
-use quantities::Amount;
+use crate::writing::{expression_line, outcome_line, recomputed_line};
+use property_types::Outcome;
+use recompute::Report;
 use std::alloc::{AllocError, Global};
+use std::marker::Model;
 
-/// Why a command was refused. A refused command changes nothing.
-#[derive(Clone, Copy, Debug, PartialEq, Eq)]
-pub enum Refusal {
-    /// No object has that name.
-    NoObject,
-    /// The object has no such property.
-    NoProperty,
-    /// The line is none of the commands that are built.
-    NotBuilt,
+/// The printed form of an expression. It is seen as the list of its bytes.
+#[derive(Debug, Drop)]
+pub struct ExprText {
+    text: String,
 }
 
-impl Refusal {
-    /// Its number and its name.
-    fn text(self) -> &'static str
-        ensures { result.now ≡ refusal_text self }
+impl Model for ExprText {
+    ghost use Rattle.std.specs.Prelude.{List, ℕ, string_bytes};
+
+    ghost Value = { List ℕ };
+
+    ghost view = { λ t. string_bytes t.text };
+}
+
+impl ExprText {
+    pub(crate) fn of(text: String) -> ExprText
+        ensures { result ≡ string_bytes text }
     {
-        match self {
-            Refusal::NoObject => "2 NoObject",
-            Refusal::NoProperty => "3 NoProperty",
-            Refusal::NotBuilt => "99 NotBuilt",
-        }
+        ExprText { text }
+    }
+
+    /// The bytes of the text.
+    pub fn bytes(&self) -> &[u8]
+        ensures { result.now ≡ self.now }
+    {
+        self.text.as_bytes()
     }
 }
 
-/// What a command answers.
-#[derive(Clone, Copy, Debug, PartialEq, Eq)]
+/// What a command answers that was not refused.
+#[derive(Debug, Drop)]
 pub enum Reply {
-    /// A number without unit.
-    Number(Amount),
-    Refused(Refusal),
-}
-
-fn number_line(alloc: Global, amount: &Amount) -> Result<String, AllocError>
-    ensures { IfOk result (λ text. string_bytes text ≡ codes "= " ++ (decimal_text amount.now ++ codes "\n")) }
-{
-    let mut number = ArrayString::new();
-    amount.write_decimal(&mut number);
-    let number = number.as_str();
-    format!(in alloc; "= {number}\n")
+    /// An edit was made.
+    Ok,
+    /// The outcome of a slot.
+    Value(Outcome),
+    /// The expression to which a slot is bound, if it is.
+    Expression(Option<ExprText>),
+    /// What a recompute has done.
+    Recomputed(Report),
 }
 
 impl Reply {
-    ghost use Rattle.fcdoc_core.specs.Replies.{answer_of};
-
-    /// Whether it is a refusal.
-    pub fn is_refusal(&self) -> bool
-        ensures { result ≡ is_refusal (answer_of self.now) }
-    {
-        matches!(self, Reply::Refused(_))
-    }
-
-    /// Its line, with the LF.
-    pub fn write(&self, alloc: Global) -> Result<String, AllocError>
-        ensures { IfOk result (λ text. string_bytes text ≡ answer_text (answer_of self.now)) }
+    /// Its line, with the LF: `ok`, `= 2 mm`, `! Range`, `: V.a * 2`, `: none` or
+    /// `recomputed 0 calls 2 faults`.
+    pub fn write(&self, alloc: Global) -> Result<Vec<u8>, AllocError>
+        ensures { IfOk result (λ text. text.items ≡ reply_text self.now) }
     {
         match self {
-            Reply::Number(amount) => number_line(alloc, amount),
-            Reply::Refused(refusal) => {
-                let text = refusal.text();
-                format!(in alloc; "refused {text}\n")
-            }
+            Reply::Ok => Vec::from_slice(alloc, b"ok\n"),
+            Reply::Value(outcome) => outcome_line(alloc, outcome),
+            Reply::Expression(text) => expression_line(alloc, text),
+            Reply::Recomputed(report) => recomputed_line(alloc, report),
         }
     }
 }

@@ -1,0 +1,30 @@
+use crate::refusal::Refusal;
+use expr_grammar::ParseFault;
+use std::alloc::AllocError;
+use thiserror::Error;
+
+/// Why an edit was not made.
+#[derive(Debug, Drop, Error)]
+pub enum EditFault {
+    #[error("refused")]
+    Refused(Refusal),
+    #[error("out of memory")]
+    Memory(AllocError),
+}
+
+impl From<ParseFault> for EditFault {
+    ghost use Rattle.doc_rules.specs.EditFaults.{edit_fault_of};
+
+    ghost from_gives = { λ fault e. e ≡ edit_fault_of fault };
+
+    fn from(fault: ParseFault) -> EditFault {
+        match fault {
+            ParseFault::Expr(fault) => EditFault::Refused(Refusal {
+                number: 11,
+                subject: None,
+                place: Some(fault.place),
+            }),
+            ParseFault::Memory(error) => EditFault::Memory(error),
+        }
+    }
+}

@@ -1,0 +1,196 @@
+ghost use Rattle.std.specs.Prelude.{◌≡◌, ◌≤◌, ◌<◌, ◌^◌, ◌≢◌, Err, IfOk, IfSome, IsSome, OnOk, Some, option_map};
+ghost use Rattle.property_types.specs.declared.prop_type.PropType.TheVariants.{Placement};
+ghost use Rattle.object_paths.specs.Slots.{Slot};
+ghost use Rattle.expr_eval.specs.Outcomes.{outcome_of};
+ghost use Rattle.expr_eval.specs.Sorts.{sort_of};
+ghost use Rattle.expr_grammar.specs.Parse.{closed_expression_of, expression_of};
+ghost use Rattle.expr_grammar.specs.References.{reference_count};
+ghost use Rattle.document_model.specs.Document.{Document};
+ghost use Rattle.document_model.specs.Edited.{with_content};
+ghost use Rattle.document_outcomes.specs.Faults.{IsValid};
+ghost use Rattle.document_outcomes.specs.Full.{fitted};
+ghost use Rattle.doc_tables.specs.Entries.{HasFewReferences};
+ghost use Rattle.doc_tables.specs.Numbered.{slot_at};
+ghost use Rattle.doc_rules.specs.Edits.{Answers, Becomes, IsNamed, MeetsEdit, accepted, bound_to, edited, fault_told, no_outcomes, no_sorts, refusal_of_fault, set_to, value_fitted, value_given};
+ghost use Rattle.doc_rules.specs.declared.edit_fault.EditFault.TheVariants.{Refused};
+ghost use Rattle.doc_rules.specs.declared.refusal.Refusal.{Refusal};
+
+use crate::checking::check;
+use crate::closed::NothingBehind;
+use crate::commanded::slot_commanded;
+use crate::edit::Edit;
+use crate::edit_fault::EditFault;
+use crate::fault::{CheckFault, DocFault};
+use crate::refusal::Refusal;
+use crate::sort_rules::{given_as, number_of_cause};
+use doc_tables::Tables;
+use document_model::Content;
+use expr_eval::{SortFault, SortOutcome, evaluate, sort_of};
+use expr_grammar::{Expr, parse, parse_closed};
+use fc_base::{SlotId, Steps};
+use property_types::{FitFault, Outcome, PropType, Value, ValueFault};
+use std::alloc::{AllocError, Global};
+
+/// An edit whose document has a fault is refused.
+fn refused_by(alloc: Global, fault: &DocFault) -> EditFault
+    ensures { Answers {A = Document} (Err (refusal_of_fault (fault_told fault.now))) (Err result) }
+{
+    match fault.refusal(alloc) {
+        Ok(refusal) => EditFault::Refused(refusal),
+        Err(error) => EditFault::Memory(error),
+    }
+}
+
+/// The tables with another content in a slot, unless the document has a fault then.
+fn with_rule(
+    alloc: Global,
+    tables: &Tables,
+    slot: SlotId,
+    rule: Content,
+) -> Result<Tables, EditFault>
+    requires live { IsSome (slot_at tables.now slot.0) }
+    requires references { HasFewReferences rule }
+    ensures { (s : Slot) → slot_at tables.now slot.0 ≡ Some s
+        → Becomes tables.now (accepted (with_content tables.now.document s rule)) result }
+{
+    let mut edited = tables.copy(alloc).map_err(EditFault::Memory)?;
+    edited.set_rule(slot, rule).map_err(EditFault::Memory)?;
+    match check(alloc, &edited) {
+        Ok(()) => Ok(edited),
+        Err(CheckFault::Doc(fault)) => Err(refused_by(alloc, &fault)),
+        Err(CheckFault::Memory(error)) => Err(EditFault::Memory(error)),
+    }
+}
+
+/// The tables with a slot bound to the expression of a text.
+fn bound(
+    alloc: Global,
+    tables: &Tables,
+    slot: SlotId,
+    text: &str,
+) -> Result<Tables, EditFault>
+    requires { IsSome (slot_at tables.now slot.0) }
+    ensures { (s : Slot) → slot_at tables.now slot.0 ≡ Some s
+        → Becomes tables.now (bound_to tables.now.document s (expression_of text.now)) result }
+{
+    let tree = parse(alloc, text)?;
+    with_rule(alloc, tables, slot, Content::Bound(tree))
+}
+
+/// The sort of a closed expression.
+fn closed_sort(alloc: Global, tree: &Expr) -> Result<SortOutcome, AllocError>
+    requires { reference_count tree.now < 2 ^ 32 }
+    ensures { IfOk result (λ found. found ≡ sort_of no_sorts 0 tree.now) }
+{
+    let nothing = NothingBehind {
+        outcome: Err(ValueFault::Range),
+    };
+    match sort_of(alloc, tree, &nothing) {
+        Ok(sort) => Ok(Ok(sort)),
+        Err(SortFault::Cause(cause)) => Ok(Err(cause)),
+        Err(SortFault::Memory(error)) => Err(error),
+    }
+}
+
+/// The outcome of a closed expression.
+fn closed_outcome(alloc: Global, tree: &Expr) -> Result<Outcome, AllocError>
+    requires { reference_count tree.now < 2 ^ 32 }
+    ensures { IfOk result (λ o. o ≡ outcome_of no_outcomes 0 tree.now) }
+{
+    let nothing = NothingBehind {
+        outcome: Err(ValueFault::Range),
+    };
+    evaluate(alloc, tree, &nothing, &mut Steps::new(()))
+}
+
+/// An outcome as one that a slot of the type is given.
+fn value_fitted(
+    alloc: Global,
+    prop: Option<&PropType>,
+    given: Outcome,
+) -> Result<Value, EditFault>
+    requires { IfSome prop (λ p. p.now ≢ Placement) }
+    ensures { Answers (value_fitted (fitted (option_map (λ p. p.now) prop.entry) given)) result }
+{
+    let Ok(value) = given else {
+        return Err(EditFault::Refused(Refusal::of(10)));
+    };
+    let Some(prop) = prop else {
+        return Ok(value);
+    };
+    match prop.fit(alloc, &value) {
+        Ok(fitted) => Ok(fitted),
+        Err(FitFault::Fault(_)) => Err(EditFault::Refused(Refusal::of(10))),
+        Err(FitFault::Memory(error)) => Err(EditFault::Memory(error)),
+    }
+}
+
+/// The value of a closed expression, as the type of a slot has it.
+fn value_given(
+    alloc: Global,
+    tables: &Tables,
+    slot: SlotId,
+    tree: &Expr,
+) -> Result<Value, EditFault>
+    requires live { IsSome (slot_at tables.now slot.0) }
+    requires references { reference_count tree.now < 2 ^ 32 }
+    ensures { (s : Slot) → slot_at tables.now slot.0 ≡ Some s → Answers (value_given tables.now.document s tree.now) result }
+{
+    tables.holds_var_sets();
+    let prop = tables.type_of(slot);
+    let found = closed_sort(alloc, tree).map_err(EditFault::Memory)?;
+    if let Err(cause) = given_as(prop.map(|prop| prop.sort()), found) {
+        return Err(EditFault::Refused(Refusal::of(number_of_cause(cause))));
+    }
+    let given = closed_outcome(alloc, tree).map_err(EditFault::Memory)?;
+    value_fitted(alloc, prop, given)
+}
+
+/// The tables with a slot set to the value of a text.
+fn set(
+    alloc: Global,
+    tables: &Tables,
+    slot: SlotId,
+    text: &str,
+) -> Result<Tables, EditFault>
+    requires { IsSome (slot_at tables.now slot.0) }
+    ensures { (s : Slot) → slot_at tables.now slot.0 ≡ Some s
+        → Becomes tables.now (set_to tables.now.document s (closed_expression_of text.now)) result }
+{
+    let tree = parse_closed(alloc, text)?;
+    let value = value_given(alloc, tables, slot, &tree)?;
+    with_rule(alloc, tables, slot, Content::Own(value))
+}
+
+/// The tables behind an edit.
+#[tactic(auto, unfolding(crate::specs::Edits::edited))]
+fn edited(alloc: Global, tables: &Tables, edit: &Edit) -> Result<Tables, EditFault>
+    ensures { Becomes tables.now (edited tables.now.document edit.now) result }
+{
+    match edit {
+        Edit::SetValue { path, expr } => match slot_commanded(tables, path) {
+            Ok(slot) => set(alloc, tables, slot, expr.as_str()),
+            Err(refusal) => Err(EditFault::Refused(refusal)),
+        },
+        Edit::Bind { path, expr } => match slot_commanded(tables, path) {
+            Ok(slot) => bound(alloc, tables, slot, expr.as_str()),
+            Err(refusal) => Err(EditFault::Refused(refusal)),
+        },
+    }
+}
+
+/// Makes an edit, and answers how many references were written anew.
+///
+/// Its refusals come in this order: 2 and 3 where its path names no object or no slot; 11 where the
+/// text is no expression, with the place, or no closed one where the slot is set; 15 to 17 where the
+/// value has no sort that the slot takes, and 10 where it is outside the slot's type; then the first
+/// fault of the edited document, with its subject. A refused edit changes nothing.
+pub fn apply_edit(alloc: Global, tables: &mut Tables, edit: &Edit) -> Result<u64, EditFault>
+    ensures exact { MeetsEdit tables.old tables.new (edited tables.old.document edit.now) result }
+    ensures valid { OnOk result (IsValid tables.new.document) }
+    ensures named { (r : Refusal) → result ≡ Err (Refused r) → IsNamed r }
+{
+    let edited = edited(alloc, tables, edit)?;
+    *tables = edited;
+    Ok(0)
+}

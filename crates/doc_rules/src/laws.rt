@@ -1,0 +1,18 @@
+//! Laws of the definitions, each as the contract of a function with nothing to do.
+ghost use Rattle.std.specs.Prelude.{◌≡◌, IsTrue, Err, Some};
+ghost use Rattle.document_model.specs.Document.{Document};
+ghost use Rattle.document_outcomes.specs.Faults.{Fault, first_fault};
+ghost use Rattle.doc_rules.specs.declared.edit.Edit.{Edit};
+ghost use Rattle.doc_rules.specs.declared.refusal.Refusal.{Refusal};
+ghost use Rattle.doc_rules.specs.Edits.{IsNamed, edited};
+ghost use Rattle.doc_rules.specs.Refusals.{is_refusal_number};
+
+/// The first fault of a document has one of the numbers of refusals.
+pub fn faults_are_named()
+    ensures { (d : Document) (f : Fault) → first_fault d ≡ Some f → IsTrue (is_refusal_number f.number) }
+{}
+
+/// An edit is refused with one of the numbers of refusals.
+pub fn refused_edits_are_named()
+    ensures { (d : Document) (e : Edit) (r : Refusal) → edited d e ≡ Err r → IsNamed r }
+{}
