@@ -17,7 +17,7 @@ use Rattle.property_types.specs.declared.value.Value.TheVariants.{Number, Flag}
 use Rattle.property_types.specs.Plans.{Slots}
 use Rattle.property_types.specs.Types.{unit_of}
 use Rattle.expr_grammar.specs.declared.operators.BinaryOp.TheVariants.{Times}
-use Rattle.expr_grammar.specs.declared.operators.AggregateOp.TheVariants.{Sum}
+use Rattle.expr_tokens.specs.declared.functions.AggregateOp.TheVariants.{Sum}
 use Rattle.expr_grammar.specs.Tree.{Tree, literal, path, binary, aggregate, no_more, cells}
 use Rattle.document_model.specs.declared.content.Content.{Content}
 use Rattle.document_model.specs.declared.content.Content.TheVariants.{Own, Bound}

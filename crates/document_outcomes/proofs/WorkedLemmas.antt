@@ -11,11 +11,11 @@ use Rattle.quantities.specs.Arithmetic.{nearest}
 use Rattle.quantities.specs.Decimals.{is_decimal, decimal_value, size_of}
 use Rattle.quantities.specs.Texts.{decimal_text, digits_below, without_final_zeros, whole_text}
 use Rattle.object_paths.specs.PathTexts.{path_text}
-use Rattle.expr_grammar.specs.Lexemes.{lexed_from, lexeme_at, numeral_at, word_at}
-use Rattle.expr_grammar.specs.Limits.{excess_from}
-use Rattle.expr_grammar.specs.Longest.{longest, longest_within}
+use Rattle.expr_tokens.specs.Lexemes.{lexed_from, lexeme_at, numeral_at, word_at}
+use Rattle.expr_tokens.specs.Limits.{excess_from}
+use Rattle.expr_tokens.specs.Longest.{longest, longest_within}
 use Rattle.expr_grammar.specs.Printed.{printed}
-use Rattle.expr_grammar.specs.Signs.{sign_at}
+use Rattle.expr_tokens.specs.Signs.{sign_at}
 use Rattle.document_model.specs.Resolution.{resolve}
 use Rattle.document_model.specs.Dependencies.{deps}
 use Rattle.document_outcomes.specs.Called.{input_lists, called}

@@ -18,8 +18,8 @@ use Rattle.expr_grammar.specs.declared.operators.BinaryOp.{BinaryOp}
 use Rattle.expr_grammar.specs.declared.operators.BinaryOp.TheVariants.{Plus, Minus, Times, Over, Modulo}
 use Rattle.expr_grammar.specs.declared.operators.CompareOp.{CompareOp}
 use Rattle.expr_grammar.specs.declared.operators.CompareOp.TheVariants.{Equal, NotEqual, Less, LessOrEqual, Greater, GreaterOrEqual}
-use Rattle.expr_grammar.specs.declared.operators.FunctionOp.{FunctionOp}
-use Rattle.expr_grammar.specs.declared.operators.FunctionOp.TheVariants.{Abs, Ceil, Floor, Round, Trunc}
+use Rattle.expr_tokens.specs.declared.functions.FunctionOp.{FunctionOp}
+use Rattle.expr_tokens.specs.declared.functions.FunctionOp.TheVariants.{Abs, Ceil, Floor, Round, Trunc}
 use Rattle.expr_eval.specs.Firsts.{on_two}
 
 -- a number, or the fault in its place

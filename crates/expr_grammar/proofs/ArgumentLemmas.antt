@@ -3,7 +3,7 @@ use Rattle.std.proofs.Common.{◌≡◌, List, [], ◌∷◌, ◌++◌, Some, No
 use Rattle.fc_base.specs.Places.{Block}
 use Rattle.expr_grammar.specs.declared.expr.Argument.{Argument}
 use Rattle.expr_grammar.specs.declared.expr.Argument.TheVariants as argument
-use Rattle.expr_grammar.specs.declared.token.Token.{Token}
+use Rattle.expr_tokens.specs.declared.token.Token.{Token}
 use Rattle.expr_grammar.specs.Descent.{Parsed, ◌>>=◌, parsed, parsed_arguments, whole_readers, arguments_step, arguments_behind, behind_separator, area_in_front}
 use Rattle.expr_grammar.specs.Grammar.{expression}
 use Rattle.expr_grammar.specs.Levels.{arguments_of}

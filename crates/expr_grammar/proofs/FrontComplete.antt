@@ -10,9 +10,9 @@ use Rattle.object_paths.specs.declared.path.Owner as w
 use Rattle.object_paths.specs.declared.path.Owner.TheVariants as owner
 use Rattle.object_paths.specs.declared.path.Path.{Path}
 use Rattle.expr_grammar.specs.declared.expr.UnitPower.{UnitPower}
-use Rattle.expr_grammar.specs.declared.sign.Sign.TheVariants as sign
-use Rattle.expr_grammar.specs.declared.token.Token.{Token}
-use Rattle.expr_grammar.specs.declared.token.Token.TheVariants as token
+use Rattle.expr_tokens.specs.declared.sign.Sign.TheVariants as sign
+use Rattle.expr_tokens.specs.declared.token.Token.{Token}
+use Rattle.expr_tokens.specs.declared.token.Token.TheVariants as token
 use Rattle.expr_grammar.specs.Descent.{Parsed, ◌>>=◌, Readers, behind_sign, digits_in_front, exponent_in_front, measured, numeral_behind, component_of_group, name_in_front, slot_behind_name, slot_in_front, behind_third_name, behind_second_name, named_path, as_tree, primary_step}
 use Rattle.expr_grammar.specs.Grammar.{IsExponent, IsUnit, HoldsExponent}
 use Rattle.expr_grammar.specs.Grammar.IsExponent.{plain, negative}

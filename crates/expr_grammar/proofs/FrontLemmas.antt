@@ -2,13 +2,13 @@
 use Rattle.std.proofs.Common.{◌≡◌, ℕ, ◌<◌, ℤ, pos, neg_ℤ, true, false, List, [], ◌∷◌, ◌++◌, Option, None, Some, refl, sym, ◌∙◌, ap, append_assoc, cond}
 use Rattle.std.specs.Prelude.{nat_lt, ◌==◌, if◌then◌else◌}
 use Rattle.std.proofs.lemmas.Bool.{eqb-true, ltb-true}
-use Rattle.expr_grammar.specs.declared.sign.Sign as s
-use Rattle.expr_grammar.specs.declared.sign.Sign.TheVariants as sign
-use Rattle.expr_grammar.specs.declared.token.Token.{Token}
-use Rattle.expr_grammar.specs.declared.token.Token.TheVariants as token
+use Rattle.expr_tokens.specs.declared.sign.Sign as s
+use Rattle.expr_tokens.specs.declared.sign.Sign.TheVariants as sign
+use Rattle.expr_tokens.specs.declared.token.Token.{Token}
+use Rattle.expr_tokens.specs.declared.token.Token.TheVariants as token
 use Rattle.expr_grammar.specs.Descent.{Parsed, ◌>>=◌, behind_sign, sign_in_front, name_in_front, digits_in_front, signed_exponent, exponent_in_front}
 use Rattle.expr_grammar.specs.Grammar.{IsExponent, plain, negative}
-use Rattle.expr_grammar.specs.SignNumbers.{same_sign, sign_number}
+use Rattle.expr_tokens.specs.SignNumbers.{same_sign, sign_number}
 
 -- what holds of the thing read and the tokens behind it, where something is read
 abbrev pub AllParsed : {A : Type 0} → (A → List Token → Type 0) → Parsed A → Type 0

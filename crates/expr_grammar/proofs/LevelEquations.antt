@@ -1,7 +1,7 @@
 -- The equations of the descent, level by level.
 use Rattle.std.proofs.Common.{◌≡◌, List}
-use Rattle.expr_grammar.specs.declared.sign.Sign.TheVariants as sign
-use Rattle.expr_grammar.specs.declared.token.Token.{Token}
+use Rattle.expr_tokens.specs.declared.sign.Sign.TheVariants as sign
+use Rattle.expr_tokens.specs.declared.token.Token.{Token}
 use Rattle.expr_grammar.specs.Descent.{◌>>=◌, parsed, parsed_operands, parsed_exponents, parsed_arguments, operands_step, exponents_step, arguments_step, whole_readers, arms, sides, unary_step, primary_step, operation_in_front, comparison_in_front, behind_sign, area_in_front}
 use Rattle.expr_grammar.specs.Grammar.{Level, expression, comparison, sum, term, unary, powers, primary}
 use Rattle.expr_grammar.specs.Tree.{Tree}

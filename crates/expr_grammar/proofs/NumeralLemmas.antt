@@ -15,14 +15,14 @@ use Rattle.quantities.specs.Texts.{billion, digits_below, without_final_zeros, b
 use Rattle.quantities.proofs.ReadLemmas.{number_after-decimal}
 use Rattle.quantities.proofs.RoundTrip.{read_whole, decimal_value-decimal_text}
 use Rattle.quantities.proofs.TextLemmas as digits
-use Rattle.expr_grammar.specs.declared.sign.Sign.TheVariants as sign
-use Rattle.expr_grammar.specs.declared.token.Lexeme.{Lexeme}
-use Rattle.expr_grammar.specs.declared.token.Lexeme.TheVariants.{Numeral, Sign}
-use Rattle.expr_grammar.specs.Lexemes.{short_number}
+use Rattle.expr_tokens.specs.declared.sign.Sign.TheVariants as sign
+use Rattle.expr_tokens.specs.declared.token.Lexeme.{Lexeme}
+use Rattle.expr_tokens.specs.declared.token.Lexeme.TheVariants.{Numeral, Sign}
+use Rattle.expr_tokens.specs.Lexemes.{short_number}
 use Rattle.expr_grammar.specs.Spelled.{is_exponent, IsNumeral}
-use Rattle.expr_grammar.proofs.AlphabetLemmas.{begins_past}
-use Rattle.expr_grammar.proofs.ByteLemmas.{is_decimal_byte}
-use Rattle.expr_grammar.proofs.LexemeLemmas.{Lexes, lexes_numeral, lexes_minus}
+use Rattle.expr_tokens.proofs.AlphabetLemmas.{begins_past}
+use Rattle.expr_tokens.proofs.ByteLemmas.{is_decimal_byte}
+use Rattle.expr_tokens.proofs.LexemeLemmas.{Lexes, lexes_numeral, lexes_minus}
 
 glyph_digit : (d : ℕ) → d < 10 → is_ascii_digit (48 + d) ≡ true
 glyph_digit d below = grind (arith, nat_tests)

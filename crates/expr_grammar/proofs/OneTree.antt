@@ -1,7 +1,7 @@
 -- A list of tokens has one tree at most, and it is the one that the descent reads.
 use Rattle.std.proofs.Common.{◌≡◌, List, [], ◌∷◌, None, Some, refl, sym, ◌∙◌, ap, subst}
 use Rattle.std.proofs.lemmas.List.{append-nil}
-use Rattle.expr_grammar.specs.declared.token.Token.{Token}
+use Rattle.expr_tokens.specs.declared.token.Token.{Token}
 use Rattle.expr_grammar.specs.Descent.{Parsed, parsed, of_all, level_steps}
 use Rattle.expr_grammar.specs.Grammar.{Level, expression, comparison, sum, term, unary, powers, primary, HasTree}
 use Rattle.expr_grammar.specs.Tree.{Tree}

@@ -10,9 +10,9 @@ use Rattle.object_paths.specs.declared.slot_name.Component as c
 use Rattle.object_paths.specs.declared.slot_name.SlotName.TheVariants as slot
 use Rattle.object_paths.specs.declared.path.Owner.TheVariants as owner
 use Rattle.object_paths.specs.declared.path.Path.{Path}
-use Rattle.expr_grammar.specs.declared.sign.Sign.TheVariants as sign
-use Rattle.expr_grammar.specs.declared.token.Token.{Token}
-use Rattle.expr_grammar.specs.declared.token.Token.TheVariants as token
+use Rattle.expr_tokens.specs.declared.sign.Sign.TheVariants as sign
+use Rattle.expr_tokens.specs.declared.token.Token.{Token}
+use Rattle.expr_tokens.specs.declared.token.Token.TheVariants as token
 use Rattle.expr_grammar.specs.Descent.{behind_sign, name_in_front, part_of, part_behind, component_of_group, slot_behind_name, slot_in_front, behind_third_name, third_name, behind_second_name, behind_owner, named_path}
 use Rattle.expr_grammar.specs.PathTokens.{dot, component_tokens, slot_tokens, IsPathOf, plain}
 use Rattle.expr_grammar.proofs.FrontLemmas.{AllParsed, AllRests, bind-all, behind_sign-rest, name_in_front-rest}

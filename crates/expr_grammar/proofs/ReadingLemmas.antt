@@ -3,19 +3,19 @@ use Rattle.std.proofs.Common.{◌≡◌, ℕ, Bool, true, false, not, ◌&&◌, 
 use Rattle.std.specs.Prelude.{◌==◌}
 use Rattle.std.proofs.lemmas.Bool.{and_parts, or_cases, not-true, not_from_false, eqb-true}
 use Rattle.fc_base.specs.Texts.{is_name, is_name_byte}
-use Rattle.expr_grammar.specs.declared.sign.Sign as s
-use Rattle.expr_grammar.specs.declared.sign.Sign.TheVariants as sign
-use Rattle.expr_grammar.specs.declared.token.Lexeme.{Lexeme}
-use Rattle.expr_grammar.specs.declared.token.Lexeme.TheVariants.{Identifier, Sign}
-use Rattle.expr_grammar.specs.declared.token.Token.{Token}
-use Rattle.expr_grammar.specs.declared.token.Token.TheVariants as token
-use Rattle.expr_grammar.specs.Kinds.{is_open, is_dot, bracket_follows, point_follows, kinds}
+use Rattle.expr_tokens.specs.declared.sign.Sign as s
+use Rattle.expr_tokens.specs.declared.sign.Sign.TheVariants as sign
+use Rattle.expr_tokens.specs.declared.token.Lexeme.{Lexeme}
+use Rattle.expr_tokens.specs.declared.token.Lexeme.TheVariants.{Identifier, Sign}
+use Rattle.expr_tokens.specs.declared.token.Token.{Token}
+use Rattle.expr_tokens.specs.declared.token.Token.TheVariants as token
+use Rattle.expr_tokens.specs.Kinds.{is_open, is_dot, bracket_follows, point_follows, kinds}
 use Rattle.expr_grammar.specs.Printed.{bracketed, spaced, call_text}
-use Rattle.expr_grammar.specs.Signs.{sign_text}
+use Rattle.expr_tokens.specs.Signs.{sign_text}
 use Rattle.expr_grammar.specs.TreeTokens.{bracketed_tokens, call_tokens}
-use Rattle.expr_grammar.proofs.AlphabetLemmas.{begins_past}
-use Rattle.expr_grammar.proofs.ByteLemmas.{is_address_byte, is_decimal_byte}
-use Rattle.expr_grammar.proofs.LexemeLemmas.{Lexes, gap, lexes_name, lexes_spaced, lexes_open, lexes_close, lexes_semicolon, lexes_minus}
+use Rattle.expr_tokens.proofs.AlphabetLemmas.{begins_past}
+use Rattle.expr_tokens.proofs.ByteLemmas.{is_address_byte, is_decimal_byte}
+use Rattle.expr_tokens.proofs.LexemeLemmas.{Lexes, gap, lexes_name, lexes_spaced, lexes_open, lexes_close, lexes_semicolon, lexes_minus}
 
 -- ---- what may follow
 

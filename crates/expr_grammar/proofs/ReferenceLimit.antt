@@ -8,14 +8,14 @@ use Rattle.object_paths.specs.declared.slot_name.SlotName.TheVariants as slot
 use Rattle.object_paths.specs.declared.path.Path.{Path}
 use Rattle.expr_grammar.specs.declared.fault.ParseFault.{ParseFault}
 use Rattle.expr_grammar.specs.declared.fault.ParseFault.TheVariants as fault
-use Rattle.expr_grammar.specs.declared.sign.Sign.TheVariants as sign
-use Rattle.expr_grammar.specs.declared.token.Lexeme.{Lexeme}
-use Rattle.expr_grammar.specs.declared.token.Placed.{Placed}
-use Rattle.expr_grammar.specs.declared.token.Token.{Token}
-use Rattle.expr_grammar.specs.declared.token.Token.TheVariants as token
+use Rattle.expr_tokens.specs.declared.sign.Sign.TheVariants as sign
+use Rattle.expr_tokens.specs.declared.token.Lexeme.{Lexeme}
+use Rattle.expr_tokens.specs.declared.token.Placed.{Placed}
+use Rattle.expr_tokens.specs.declared.token.Token.{Token}
+use Rattle.expr_tokens.specs.declared.token.Token.TheVariants as token
 use Rattle.expr_grammar.specs.Grammar.{Level, binary_sign, compare_sign, HasTree, a_comparison, a_sum, a_term, a_unary, a_power, a_primary, a_conditional, a_compare, a_binary, a_negate, a_raised, a_numeral, a_measure, a_unit, a_flag, a_text, a_path, in_brackets, a_function, a_modulo, an_aggregate, HasArguments, one_tree, more_trees, one_area, more_areas}
-use Rattle.expr_grammar.specs.Kinds.{is_point, kinds, tokens_of}
-use Rattle.expr_grammar.specs.Limits.{excess_from, open_behind, most_tokens, most_brackets}
+use Rattle.expr_tokens.specs.Kinds.{is_point, kinds, tokens_of}
+use Rattle.expr_tokens.specs.Limits.{excess_from, open_behind, most_tokens, most_brackets}
 use Rattle.expr_grammar.specs.Parse.{Parses, MeetsParse}
 use Rattle.expr_grammar.specs.PathTokens as p
 use Rattle.expr_grammar.specs.PathTokens.{slot_tokens, owner_tokens, IsPathOf, behind_point}

@@ -13,15 +13,15 @@ use Rattle.quantities.specs.Decimals.{is_decimal, decimal_size, decimal_value}
 use Rattle.quantities.specs.Digits.{begins_with_minus}
 use Rattle.quantities.specs.declared.decimal_fault.DecimalFault.TheVariants.{NotDecimal, Range}
 use Rattle.object_paths.specs.PathParts.{is_blank, opened, until_closing}
-use Rattle.expr_grammar.specs.declared.sign.Sign as s
-use Rattle.expr_grammar.specs.declared.token.Lexeme.{Lexeme}
-use Rattle.expr_grammar.specs.declared.token.Lexeme.TheVariants.{Numeral, Identifier, Marked, Text, Sign}
-use Rattle.expr_grammar.specs.declared.token.Placed.{Placed}
-use Rattle.expr_grammar.specs.Lexemes.{numeral_of, has_mark, is_marked_address, spells_word, identifier_of, marked_of, of_length, numeral_at, word_at, quoted, mark_or_word, lexeme_at, in_front, with_lexeme, lexed_from}
-use Rattle.expr_grammar.specs.Longest.{longest}
-use Rattle.expr_grammar.specs.Signs.{sign_at}
+use Rattle.expr_tokens.specs.declared.sign.Sign as s
+use Rattle.expr_tokens.specs.declared.token.Lexeme.{Lexeme}
+use Rattle.expr_tokens.specs.declared.token.Lexeme.TheVariants.{Numeral, Identifier, Marked, Text, Sign}
+use Rattle.expr_tokens.specs.declared.token.Placed.{Placed}
+use Rattle.expr_tokens.specs.Lexemes.{numeral_of, has_mark, is_marked_address, spells_word, identifier_of, marked_of, of_length, numeral_at, word_at, quoted, mark_or_word, lexeme_at, in_front, with_lexeme, lexed_from}
+use Rattle.expr_tokens.specs.Longest.{longest}
+use Rattle.expr_tokens.specs.Signs.{sign_at}
 use Rattle.expr_grammar.specs.Spelled.{is_quotable, IsNumeral}
-use Rattle.expr_grammar.proofs.LongestLemmas.{longest-passes}
+use Rattle.expr_tokens.proofs.LongestLemmas.{longest-passes}
 
 -- ---- lexemes
 

@@ -15,15 +15,15 @@ use Rattle.object_paths.specs.declared.path.Owner.TheVariants.{Here, ByName, ByL
 use Rattle.object_paths.specs.declared.path.Path.{Path}
 use Rattle.object_paths.specs.Paths.{IsSlotName, IsOwner, IsPath}
 use Rattle.expr_grammar.specs.declared.expr.UnitPower.{UnitPower}
-use Rattle.expr_grammar.specs.declared.operators.AggregateOp.{AggregateOp}
-use Rattle.expr_grammar.specs.declared.sign.Sign.TheVariants as sign
-use Rattle.expr_grammar.specs.declared.token.Lexeme.{Lexeme}
-use Rattle.expr_grammar.specs.declared.token.Lexeme.TheVariants.{Numeral, Identifier, Marked, Text, Sign}
-use Rattle.expr_grammar.specs.declared.token.Placed.{Placed}
-use Rattle.expr_grammar.specs.declared.token.Token.{Token}
-use Rattle.expr_grammar.specs.declared.token.Token.TheVariants as token
+use Rattle.expr_tokens.specs.declared.functions.AggregateOp.{AggregateOp}
+use Rattle.expr_tokens.specs.declared.sign.Sign.TheVariants as sign
+use Rattle.expr_tokens.specs.declared.token.Lexeme.{Lexeme}
+use Rattle.expr_tokens.specs.declared.token.Lexeme.TheVariants.{Numeral, Identifier, Marked, Text, Sign}
+use Rattle.expr_tokens.specs.declared.token.Placed.{Placed}
+use Rattle.expr_tokens.specs.declared.token.Token.{Token}
+use Rattle.expr_tokens.specs.declared.token.Token.TheVariants as token
 use Rattle.expr_grammar.specs.Grammar.{Level, binary_sign, compare_sign, IsExponent, plain, negative, IsUnit, alone, raised, IsCorner, named, marked, HasTree, a_comparison, a_sum, a_term, a_unary, a_power, a_primary, a_conditional, a_compare, a_binary, a_negate, a_raised, a_numeral, a_measure, a_unit, a_flag, a_text, a_path, in_brackets, a_function, a_modulo, an_aggregate, HasArguments, one_tree, more_trees, one_area, more_areas}
-use Rattle.expr_grammar.specs.Kinds.{is_point, bracket_follows, point_follows, lone_word, word, kind_of, kinds}
+use Rattle.expr_tokens.specs.Kinds.{is_point, bracket_follows, point_follows, lone_word, word, kind_of, kinds}
 use Rattle.expr_grammar.specs.PathTokens as p
 use Rattle.expr_grammar.specs.PathTokens.{dot, component_tokens, slot_tokens, owner_tokens, path_tokens, CanOwn, IsPathOf, behind_point}
 use Rattle.expr_grammar.specs.Parse.{Parses}

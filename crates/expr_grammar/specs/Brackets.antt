@@ -1,9 +1,9 @@
 -- Brackets stand in a printed form where its tree needs them.
 use Rattle.std.specs.Prelude.{◌≡◌, ◌↔◌, List, Ok, IsTrue}
-use Rattle.expr_grammar.specs.declared.token.Placed.{Placed}
+use Rattle.expr_tokens.specs.declared.token.Placed.{Placed}
 use Rattle.expr_grammar.specs.Grammar.{Level, HasTree}
-use Rattle.expr_grammar.specs.Kinds.{tokens_of}
-use Rattle.expr_grammar.specs.Lexemes.{lexed}
+use Rattle.expr_tokens.specs.Kinds.{tokens_of}
+use Rattle.expr_tokens.specs.Lexemes.{lexed}
 use Rattle.expr_grammar.specs.Printed.{fits, printed}
 use Rattle.expr_grammar.specs.Spelled.{IsSpelled}
 use Rattle.expr_grammar.specs.Tree.{Tree}

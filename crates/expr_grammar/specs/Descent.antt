@@ -14,15 +14,15 @@ use Rattle.expr_grammar.specs.declared.operators.BinaryOp as b
 use Rattle.expr_grammar.specs.declared.operators.BinaryOp.TheVariants as binary_op
 use Rattle.expr_grammar.specs.declared.operators.CompareOp as o
 use Rattle.expr_grammar.specs.declared.operators.CompareOp.TheVariants as compare_op
-use Rattle.expr_grammar.specs.declared.operators.FunctionOp as f
-use Rattle.expr_grammar.specs.declared.operators.AggregateOp as g
-use Rattle.expr_grammar.specs.declared.sign.Sign as s
-use Rattle.expr_grammar.specs.declared.sign.Sign.TheVariants as sign
-use Rattle.expr_grammar.specs.declared.token.Token.{Token}
-use Rattle.expr_grammar.specs.declared.token.Token.TheVariants as token
-use Rattle.expr_grammar.specs.Functions.{function_named, modulo_name, aggregate_named}
+use Rattle.expr_tokens.specs.declared.functions.FunctionOp as f
+use Rattle.expr_tokens.specs.declared.functions.AggregateOp as g
+use Rattle.expr_tokens.specs.declared.sign.Sign as s
+use Rattle.expr_tokens.specs.declared.sign.Sign.TheVariants as sign
+use Rattle.expr_tokens.specs.declared.token.Token.{Token}
+use Rattle.expr_tokens.specs.declared.token.Token.TheVariants as token
+use Rattle.expr_tokens.specs.Functions.{function_named, modulo_name, aggregate_named}
 use Rattle.expr_grammar.specs.Grammar.{Level, expression, comparison, sum, term, unary, powers, primary, right_level}
-use Rattle.expr_grammar.specs.SignNumbers.{same_sign}
+use Rattle.expr_tokens.specs.SignNumbers.{same_sign}
 use Rattle.expr_grammar.specs.Tree.{Tree, literal, unit_one, flag, text, path, negate, binary, power, compare, conditional, function, modulo, aggregate, Arguments, no_more, tree, cells}
 
 -- something read, and the tokens behind it

@@ -7,13 +7,13 @@ use Rattle.expr_grammar.specs.declared.operators.BinaryOp.{BinaryOp}
 use Rattle.expr_grammar.specs.declared.operators.BinaryOp.TheVariants.{Plus, Minus, Times, Over, Modulo}
 use Rattle.expr_grammar.specs.declared.operators.CompareOp.{CompareOp}
 use Rattle.expr_grammar.specs.declared.operators.CompareOp.TheVariants.{Equal, NotEqual, Less, LessOrEqual, Greater, GreaterOrEqual}
-use Rattle.expr_grammar.specs.declared.operators.FunctionOp.{FunctionOp}
-use Rattle.expr_grammar.specs.declared.operators.AggregateOp.{AggregateOp}
-use Rattle.expr_grammar.specs.declared.sign.Sign as s
-use Rattle.expr_grammar.specs.declared.sign.Sign.TheVariants as sign
-use Rattle.expr_grammar.specs.declared.token.Token.{Token}
-use Rattle.expr_grammar.specs.declared.token.Token.TheVariants as token
-use Rattle.expr_grammar.specs.Functions.{function_name, modulo_name, aggregate_name}
+use Rattle.expr_tokens.specs.declared.functions.FunctionOp.{FunctionOp}
+use Rattle.expr_tokens.specs.declared.functions.AggregateOp.{AggregateOp}
+use Rattle.expr_tokens.specs.declared.sign.Sign as s
+use Rattle.expr_tokens.specs.declared.sign.Sign.TheVariants as sign
+use Rattle.expr_tokens.specs.declared.token.Token.{Token}
+use Rattle.expr_tokens.specs.declared.token.Token.TheVariants as token
+use Rattle.expr_tokens.specs.Functions.{function_name, modulo_name, aggregate_name}
 use Rattle.expr_grammar.specs.PathTokens.{IsPathOf}
 use Rattle.expr_grammar.specs.Tree.{Tree, literal, unit_one, flag, text, path, negate, binary, power, compare, conditional, function, modulo, aggregate, Arguments, no_more, tree, cells}
 

@@ -1,8 +1,8 @@
 -- Which expressions are too large to be read again.
 use Rattle.std.specs.Prelude.{ℕ, Bool, false, List, is_some, Result, Ok, Err}
-use Rattle.expr_grammar.specs.declared.token.Placed.{Placed}
-use Rattle.expr_grammar.specs.Lexemes.{lexed}
-use Rattle.expr_grammar.specs.Limits.{excess}
+use Rattle.expr_tokens.specs.declared.token.Placed.{Placed}
+use Rattle.expr_tokens.specs.Lexemes.{lexed}
+use Rattle.expr_tokens.specs.Limits.{excess}
 use Rattle.expr_grammar.specs.Printed.{printed}
 use Rattle.expr_grammar.specs.Tree.{Tree}
 

@@ -7,15 +7,6 @@ pub mod References
 pub mod ListedReferences
 pub mod Spelled
 pub mod Numbered
-pub mod Signs
-pub mod Longest
-pub mod Lexemes
-pub mod NumeralParts
-pub mod Lexing
-pub mod Functions
-pub mod Kinds
-pub mod Limits
-pub mod Misplaced
 pub mod PathTokens
 pub mod Grammar
 pub mod Printed
@@ -25,8 +16,6 @@ pub mod Parse
 pub mod ReadBack
 pub mod Brackets
 pub mod PrintingLevels
-pub mod Examples
-pub mod SignNumbers
 pub mod Descent
 pub mod Joined
 pub mod Reading

@@ -8,9 +8,9 @@ use Rattle.object_paths.specs.declared.slot_name.SlotName.TheVariants.{Plain, Co
 use Rattle.object_paths.specs.declared.path.Owner.{Owner}
 use Rattle.object_paths.specs.declared.path.Owner.TheVariants.{Here, ByName, ByLabel}
 use Rattle.object_paths.specs.declared.path.Path.{Path}
-use Rattle.expr_grammar.specs.declared.sign.Sign.TheVariants as sign
-use Rattle.expr_grammar.specs.declared.token.Token.{Token}
-use Rattle.expr_grammar.specs.declared.token.Token.TheVariants as token
+use Rattle.expr_tokens.specs.declared.sign.Sign.TheVariants as sign
+use Rattle.expr_tokens.specs.declared.token.Token.{Token}
+use Rattle.expr_tokens.specs.declared.token.Token.TheVariants as token
 
 abbrev pub dot : Token
 dot = token.Sign sign.Dot

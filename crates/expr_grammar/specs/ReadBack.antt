@@ -1,9 +1,9 @@
 -- A printed tree is read back as itself, and every tree that is read can be printed.
 use Rattle.std.specs.Prelude.{◌≡◌, ℕ, List, Ok}
-use Rattle.expr_grammar.specs.declared.token.Placed.{Placed}
+use Rattle.expr_tokens.specs.declared.token.Placed.{Placed}
 use Rattle.expr_grammar.specs.Grammar.{HasTree, expression}
-use Rattle.expr_grammar.specs.Kinds.{tokens_of}
-use Rattle.expr_grammar.specs.Lexemes.{lexed}
+use Rattle.expr_tokens.specs.Kinds.{tokens_of}
+use Rattle.expr_tokens.specs.Lexemes.{lexed}
 use Rattle.expr_grammar.specs.Parse.{IsLexed, Parses}
 use Rattle.expr_grammar.specs.Printed.{printed}
 use Rattle.expr_grammar.specs.Spelled.{IsSpelled}

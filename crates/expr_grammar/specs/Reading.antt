@@ -1,12 +1,12 @@
 -- What a reader of tokens answers, against what stands in front of them.
 use Rattle.std.specs.Prelude.{◌≡◌, Bool, true, false, List, [], ◌∷◌, Option, None, Some, Result, Ok, Err}
-use Rattle.expr_grammar.specs.declared.token.Token.{Token}
+use Rattle.expr_tokens.specs.declared.token.Token.{Token}
 use Rattle.expr_grammar.specs.declared.stop.Stop.{Stop}
 use Rattle.expr_grammar.specs.declared.stop.Stop.TheVariants.{Syntax, Memory}
 use Rattle.fc_base.specs.Places.{Block}
 use Rattle.expr_grammar.specs.declared.expr.Argument.{Argument}
 use Rattle.expr_grammar.specs.declared.expr.Argument.TheVariants as argument
-use Rattle.expr_grammar.specs.declared.operators.AggregateOp.{AggregateOp}
+use Rattle.expr_tokens.specs.declared.functions.AggregateOp.{AggregateOp}
 use Rattle.expr_grammar.specs.Descent.{Parsed, ◌>>=◌, parsed, parsed_arguments, whole_readers, second_argument, with_bracket, behind_separator, area_in_front, of_all}
 use Rattle.expr_grammar.specs.Grammar.{expression}
 use Rattle.expr_grammar.specs.Joined.{joined}

@@ -5,8 +5,8 @@ use Rattle.object_paths.specs.declared.path.Path.{Path}
 use Rattle.expr_grammar.specs.declared.expr.UnitPower.{UnitPower}
 use Rattle.expr_grammar.specs.declared.operators.BinaryOp.{BinaryOp}
 use Rattle.expr_grammar.specs.declared.operators.CompareOp.{CompareOp}
-use Rattle.expr_grammar.specs.declared.operators.FunctionOp.{FunctionOp}
-use Rattle.expr_grammar.specs.declared.operators.AggregateOp.{AggregateOp}
+use Rattle.expr_tokens.specs.declared.functions.FunctionOp.{FunctionOp}
+use Rattle.expr_tokens.specs.declared.functions.AggregateOp.{AggregateOp}
 
 mutual
   -- A tree: what stands at the top, over the trees of its parts.

@@ -7,8 +7,8 @@ use Rattle.object_paths.specs.declared.path.Path.{Path}
 use Rattle.expr_grammar.specs.declared.expr.UnitPower.{UnitPower}
 use Rattle.expr_grammar.specs.declared.operators.BinaryOp.{BinaryOp}
 use Rattle.expr_grammar.specs.declared.operators.CompareOp.{CompareOp}
-use Rattle.expr_grammar.specs.declared.operators.FunctionOp.{FunctionOp}
-use Rattle.expr_grammar.specs.declared.operators.AggregateOp.{AggregateOp}
+use Rattle.expr_tokens.specs.declared.functions.FunctionOp.{FunctionOp}
+use Rattle.expr_tokens.specs.declared.functions.AggregateOp.{AggregateOp}
 use Rattle.expr_grammar.specs.Tree.{Tree, literal, unit_one, flag, text, path, negate, binary, power, compare, conditional, function, modulo, aggregate, Arguments, no_more, tree, cells}
 
 -- A node without its parts, or one end or member of a list of arguments.

@@ -3,7 +3,8 @@ ghost use Rattle.expr_grammar.specs.Levels.{arguments_of};
 ghost use Rattle.expr_grammar.specs.Tree as t;
 
 use crate::expr::{Argument, Expr, Node};
-use crate::operators::{AggregateOp, BinaryOp, CompareOp, FunctionOp};
+use crate::operators::{BinaryOp, CompareOp};
+use expr_tokens::{AggregateOp, FunctionOp};
 use object_paths::Path;
 use std::alloc::{AllocError, Global};
 

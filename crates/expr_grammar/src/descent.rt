@@ -3,15 +3,12 @@ ghost use Rattle.expr_grammar.specs.Descent as d;
 ghost use Rattle.expr_grammar.specs.Grammar.{expression, comparison, sum, term, unary, powers, primary};
 ghost use Rattle.expr_grammar.specs.Levels.{arguments_of};
 ghost use Rattle.expr_grammar.specs.Reading.{Gives, GivesBy, GivesWhole, modulo_in_front, aggregate_in_front, argument_in_front};
-ghost use Rattle.expr_grammar.specs.declared.sign.Sign.TheVariants as sign;
+ghost use Rattle.expr_tokens.specs.declared.sign.Sign.TheVariants as sign;
 
 use crate::expr::{Argument, Expr, Node};
-use crate::functions::{aggregate_named, function_named};
-use crate::operators::AggregateOp;
 use crate::parser::Parser;
-use crate::sign::Sign;
 use crate::stop::Stop;
-use crate::token::Token;
+use expr_tokens::{AggregateOp, Sign, Token, aggregate_named, function_named};
 use fc_base::Name;
 use object_paths::{Owner, Path, SlotName};
 use std::alloc::Global;

@@ -2,7 +2,8 @@ ghost use Rattle.std.specs.Prelude.{◌≡◌, ◌^◌, ◌-◌, min, IfOk};
 ghost use Rattle.expr_grammar.specs.Tree.{negate};
 ghost use Rattle.expr_grammar.specs.Nodes.{node_count};
 
-use crate::operators::{AggregateOp, BinaryOp, CompareOp, FunctionOp};
+use crate::operators::{BinaryOp, CompareOp};
+use expr_tokens::{AggregateOp, FunctionOp};
 use fc_base::{Area, Name, TextValue};
 use object_paths::Path;
 use quantities::Amount;

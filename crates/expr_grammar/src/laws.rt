@@ -2,6 +2,7 @@
 ghost use Rattle.expr_grammar.specs.Brackets.{PrintedFormHasTokens, BracketsAreNeeded};
 ghost use Rattle.expr_grammar.specs.Grammar.{HaveOneTree};
 ghost use Rattle.expr_grammar.specs.Numbered.{NumbersDontMatter};
+ghost use Rattle.expr_grammar.specs.Parse.{ClosedHasNoReferences, ExpressionParses, FaultIsCause};
 ghost use Rattle.expr_grammar.specs.ReadBack.{PrintedFormHasTree, PrintedFormIsRead, ParsedTreesAreSpelled};
 ghost use Rattle.expr_grammar.specs.References.{ReferencesAreCounted, ReferencesAreChanged};
 
@@ -47,4 +48,16 @@ pub fn parsed_trees_are_spelled()
 pub fn brackets_are_needed()
     ensures has_tokens { PrintedFormHasTokens }
     ensures needed { BracketsAreNeeded }
+{}
+
+/// The expression of a text is the tree that it parses as, and else its fault is the first cause at
+/// its place.
+pub fn expression_is_parsed()
+    ensures tree { ExpressionParses }
+    ensures fault { FaultIsCause }
+{}
+
+/// A text that parses has no place of a first reference exactly where its tree has no references.
+pub fn closed_has_no_references()
+    ensures { ClosedHasNoReferences }
 {}

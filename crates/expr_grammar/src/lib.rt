@@ -2,16 +2,13 @@
 #![tactic(auto)]
 
 mod building;
+mod closed;
 mod copying;
 mod descent;
 mod expr;
 mod fault;
-mod functions;
-mod kinds;
 pub mod laws;
-mod lexing;
 mod limits;
-mod misplaced;
 mod operators;
 mod parser;
 mod parsing;
@@ -19,20 +16,16 @@ mod paths;
 mod printing;
 mod reference;
 mod renaming;
-mod sign;
 mod stop;
 mod tightness;
-mod token;
 
+pub use closed::parse_closed;
 pub use expr::{Argument, Expr, Node, UnitPower};
+pub use expr_tokens::{AggregateOp, FunctionOp};
 pub use fault::{ExprCause, ExprFault, ParseFault};
-pub use kinds::tokens;
-pub use lexing::{LexFault, lexemes};
 pub use limits::is_too_large;
-pub use operators::{AggregateOp, BinaryOp, CompareOp, FunctionOp};
+pub use operators::{BinaryOp, CompareOp};
 pub use parsing::parse;
 pub use printing::print;
 pub use reference::{Reference, references};
 pub use renaming::{NewReference, Renaming, map_paths};
-pub use sign::Sign;
-pub use token::{Lexeme, Placed, Token};

@@ -18,23 +18,3 @@ pub enum CompareOp {
     Greater,
     GreaterOrEqual,
 }
-
-/// A function of one number: `abs`, `ceil`, `floor`, `round`, `trunc`.
-#[derive(Clone, Copy, Debug, PartialEq, Eq)]
-pub enum FunctionOp {
-    Abs,
-    Ceil,
-    Floor,
-    Round,
-    Trunc,
-}
-
-/// A function of many numbers: `sum`, `average`, `count`, `min`, `max`.
-#[derive(Clone, Copy, Debug, PartialEq, Eq)]
-pub enum AggregateOp {
-    Sum,
-    Average,
-    Count,
-    Min,
-    Max,
-}

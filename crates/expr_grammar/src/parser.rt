@@ -4,13 +4,12 @@ ghost use Rattle.fc_base.specs.Texts.{is_label};
 ghost use Rattle.expr_grammar.specs.Descent as d;
 ghost use Rattle.expr_grammar.specs.Grammar as level;
 ghost use Rattle.expr_grammar.specs.Reading.{Gives, Finds, Passes, Advances};
-ghost use Rattle.expr_grammar.specs.declared.sign.Sign.TheVariants as sign;
+ghost use Rattle.expr_tokens.specs.declared.sign.Sign.TheVariants as sign;
 
 use crate::expr::{Expr, Node, UnitPower};
 use crate::operators::{BinaryOp, CompareOp};
-use crate::sign::Sign;
 use crate::stop::Stop;
-use crate::token::Token;
+use expr_tokens::{Sign, Token};
 use fc_base::{Address, Area, Label, LabelFault, Name, TextValue};
 use object_paths::{Owner, Path};
 use quantities::Amount;

@@ -1,5 +1,6 @@
 ghost use Rattle.std.specs.Prelude.{◌≡◌, ◌≤◌, IfOk};
-ghost use Rattle.expr_grammar.specs.Parse.{MeetsGrammar, MeetsParse};
+ghost use Rattle.expr_grammar.specs.Parse.{expression_of, MeetsGrammar, MeetsLimits, MeetsParse, Tells};
+ghost use Rattle.expr_tokens.specs.Kinds.{tokens_of};
 ghost use Rattle.expr_grammar.specs.References.{reference_count};
 ghost use Rattle.expr_grammar.specs.Spelled.{IsSpelled};
 ghost use Rattle.expr_grammar.specs.declared.fault.ParseFault.TheVariants as answer;
@@ -7,29 +8,45 @@ ghost use Rattle.expr_grammar.specs.declared.fault.ParseFault.TheVariants as ans
 use crate::descent::tree;
 use crate::expr::Expr;
 use crate::fault::{ExprCause, ExprFault, ParseFault};
-use crate::kinds::tokens;
-use crate::lexing::{LexFault, lexemes};
-use crate::limits::excess;
-use crate::misplaced::misplaced;
 use crate::stop::Stop;
-use crate::token::Placed;
+use expr_tokens::{LexFault, Placed, Token, excess, first_misplaced, lexemes, tokens};
 use std::alloc::Global;
 
 /// The fault of that cause at the place.
-fn fault(cause: ExprCause, place: u64) -> ParseFault
+pub(crate) fn fault(cause: ExprCause, place: u64) -> ParseFault
     ensures { result ≡ answer.Expr (record { place = place; cause = cause }) }
 {
     ParseFault::Expr(ExprFault { place, cause })
 }
 
-/// The tree of the lexemes, of a text of that length.
-fn tree_of(alloc: Global, lexemes: &[Placed], end: u64) -> Result<Expr, ParseFault>
+/// The lexemes of the text, within the limits.
+pub(crate) fn lexemes_within_limits(alloc: Global, text: &str) -> Result<Vec<Placed>, ParseFault>
+    ensures { MeetsLimits text.now result }
+{
+    let lexemes = match lexemes(alloc, text) {
+        Ok(lexemes) => lexemes,
+        Err(LexFault::Place(place)) => return Err(fault(ExprCause::Lexical, place)),
+        Err(LexFault::Memory(error)) => return Err(ParseFault::Memory(error)),
+    };
+    match excess(&lexemes) {
+        Some(place) => Err(fault(ExprCause::TooLarge, place)),
+        None => Ok(lexemes),
+    }
+}
+
+/// The tree of the tokens of these lexemes, of a text of that length.
+pub(crate) fn tree_of(
+    alloc: Global,
+    lexemes: &[Placed],
+    tokens: &[Token],
+    end: u64,
+) -> Result<Expr, ParseFault>
+    requires { tokens.now ≡ tokens_of lexemes.now }
     ensures { MeetsGrammar lexemes.now end result }
 {
-    let tokens = tokens(alloc, lexemes).map_err(ParseFault::Memory)?;
-    match tree(alloc, &tokens) {
+    match tree(alloc, tokens) {
         Ok(tree) => Ok(tree),
-        Err(Stop::Syntax) => Err(fault(ExprCause::Syntax, misplaced(lexemes, &tokens, end))),
+        Err(Stop::Syntax) => Err(fault(ExprCause::Syntax, first_misplaced(lexemes, tokens, end))),
         Err(Stop::Memory(error)) => Err(ParseFault::Memory(error)),
     }
 }
@@ -41,16 +58,11 @@ fn tree_of(alloc: Global, lexemes: &[Placed], end: u64) -> Result<Expr, ParseFau
 /// this order. Identifiers are XID words (Unicode Standard Annex 31).
 pub fn parse(alloc: Global, text: &str) -> Result<Expr, ParseFault>
     ensures exact { MeetsParse text.now result }
+    ensures found { Tells (expression_of text.now) result }
     ensures spelled { IfOk result IsSpelled }
     ensures references { IfOk result (λ e. reference_count e ≤ 512) }
 {
-    let lexemes = match lexemes(alloc, text) {
-        Ok(lexemes) => lexemes,
-        Err(LexFault::Place(place)) => return Err(fault(ExprCause::Lexical, place)),
-        Err(LexFault::Memory(error)) => return Err(ParseFault::Memory(error)),
-    };
-    match excess(&lexemes) {
-        Some(place) => Err(fault(ExprCause::TooLarge, place)),
-        None => tree_of(alloc, &lexemes, text.len() as u64),
-    }
+    let lexemes = lexemes_within_limits(alloc, text)?;
+    let tokens = tokens(alloc, &lexemes).map_err(ParseFault::Memory)?;
+    tree_of(alloc, &lexemes, &tokens, text.len() as u64)
 }

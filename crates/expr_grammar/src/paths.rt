@@ -1,13 +1,12 @@
 ghost use Rattle.std.specs.Prelude.{◌≡◌, ◌<◌, ◌≤◌, length, OnOk};
 ghost use Rattle.expr_grammar.specs.Descent as d;
 ghost use Rattle.expr_grammar.specs.Reading.{Gives};
-ghost use Rattle.expr_grammar.specs.declared.sign.Sign.TheVariants as sign;
+ghost use Rattle.expr_tokens.specs.declared.sign.Sign.TheVariants as sign;
 ghost use Rattle.object_paths.specs.PathParts.{component_of};
 
 use crate::parser::Parser;
-use crate::sign::Sign;
 use crate::stop::Stop;
-use crate::token::Token;
+use expr_tokens::{Sign, Token};
 use fc_base::Name;
 use object_paths::{Component, Owner, Path, SlotName};
 

@@ -2,18 +2,19 @@ ghost use Rattle.std.specs.Prelude.{◌≡◌, ◌++◌, List, IfOk, OnOk, codes
 ghost use Rattle.fc_base.specs.Places.{address_text};
 ghost use Rattle.quantities.specs.Texts.{decimal_text};
 ghost use Rattle.object_paths.specs.PathTexts.{path_text};
-ghost use Rattle.expr_grammar.specs.Functions.{function_name, aggregate_name};
+ghost use Rattle.expr_tokens.specs.Functions.{function_name, aggregate_name};
 ghost use Rattle.expr_grammar.specs.Grammar.{binary_sign, compare_sign};
 ghost use Rattle.expr_grammar.specs.Printed.{exponent_text, measure_text, area_text, bracketed, spaced, printed, printed_arguments};
 ghost use Rattle.expr_grammar.specs.Levels.{arguments_of};
 ghost use Rattle.expr_grammar.specs.Parse.{IsLexed, Parses};
-ghost use Rattle.expr_grammar.specs.Signs.{sign_text};
+ghost use Rattle.expr_tokens.specs.Signs.{sign_text};
 ghost use Rattle.expr_grammar.specs.Spelled.{IsSpelled};
 ghost use Rattle.expr_grammar.specs.Tree.{binary, compare, conditional, function, modulo};
-ghost use Rattle.expr_grammar.specs.declared.token.Placed.{Placed};
+ghost use Rattle.expr_tokens.specs.declared.token.Placed.{Placed};
 
 use crate::expr::{Argument, Expr, Node, UnitPower};
-use crate::operators::{AggregateOp, BinaryOp, CompareOp, FunctionOp};
+use crate::operators::{BinaryOp, CompareOp};
+use expr_tokens::{AggregateOp, FunctionOp};
 use crate::tightness::{Tightness, fits, fits_as_base, level_of_operation, level_of_right};
 use arrayvec::ArrayString;
 use fc_base::{Address, Area, TextValue};

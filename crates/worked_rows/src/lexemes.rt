@@ -1,9 +1,8 @@
 //! Lexemes and tokens of texts, worked out by hand.
 
 use arrayvec::ArrayString;
-use expr_grammar::{
-    ExprCause, ExprFault, LexFault, Lexeme, ParseFault, Token, lexemes, parse, tokens,
-};
+use expr_grammar::{ExprCause, ExprFault, ParseFault, parse};
+use expr_tokens::{LexFault, Lexeme, Token, lexemes, tokens};
 use fc_base::Address;
 use quantities::Amount;
 use std::alloc::{AllocError, Global};

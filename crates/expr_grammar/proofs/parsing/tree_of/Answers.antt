@@ -2,12 +2,12 @@ use Rattle.std.proofs.Common.{◌≡◌, ℕ, List, map, subst, ap, ◌∙◌, s
 use Rattle.std.proofs.lemmas.Grind.{common_steps}
 use Rattle.expr_grammar.specs.Descent.{of_all, parsed}
 use Rattle.expr_grammar.specs.Grammar.{HasTree, expression}
-use Rattle.expr_grammar.specs.Kinds.{tokens_of}
-use Rattle.expr_grammar.specs.Misplaced.{misplaced}
+use Rattle.expr_tokens.specs.Kinds.{tokens_of}
+use Rattle.expr_tokens.specs.Misplaced.{misplaced}
 use Rattle.expr_grammar.specs.Parse.{HasNoTree, MeetsGrammar}
 use Rattle.expr_grammar.specs.declared.fault.ParseFault.{ParseFault}
-use Rattle.expr_grammar.specs.declared.token.Token.{Token}
-use Rattle.expr_grammar.specs.declared.token.Placed.{Placed}
+use Rattle.expr_tokens.specs.declared.token.Token.{Token}
+use Rattle.expr_tokens.specs.declared.token.Placed.{Placed}
 use Rattle.expr_grammar.proofs.OneTree.{of_all-sound, of_all-none}
 use Rattle.expr_grammar.proofs.parsing.tree_of.Goals as goal
 

@@ -1,7 +1,0 @@
-use Rattle.std.proofs.Common.{◌≡◌, ℕ, ◌<◌, ◌≤◌, length, take, false}
-use Rattle.expr_grammar.specs.Lexemes.{is_marked_address}
-use Rattle.expr_grammar.proofs.lexing.word.longest_marked.Given as goal
-
--- no longer front is a marked address
-abbrev pub invariant-loop-length : goal.invariant-loop-length
-invariant-loop-length l = (m : ℕ) → l.length < m → m ≤ length l.text → is_marked_address (take m l.text) ≡ false

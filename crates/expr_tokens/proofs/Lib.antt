@@ -1,0 +1,13 @@
+pub mod LongestLemmas
+pub mod AlphabetLemmas
+pub mod ByteLemmas
+pub mod LexemeLemmas
+pub mod AsciiNames
+pub mod LongestFronts
+pub mod WordLemmas
+pub mod MarkedLemmas
+pub mod DigitLemmas
+pub mod ScannedNumerals
+pub mod LexedLemmas
+pub mod LexemeFronts
+pub mod NumeralBytes

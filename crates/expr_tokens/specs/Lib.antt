@@ -1,0 +1,12 @@
+pub mod Signs
+pub mod Longest
+pub mod Lexemes
+pub mod NumeralParts
+pub mod Lexing
+pub mod Functions
+pub mod Kinds
+pub mod Limits
+pub mod Misplaced
+pub mod Examples
+pub mod SignNumbers
+pub mod FirstReference
