@@ -5,3 +5,5 @@ pub mod MarkLemmas
 pub mod SortNumbers
 pub mod LabelNumbers
 pub mod ChainLemmas
+pub mod EditLemmas
+pub mod SlotLemmas

@@ -96,10 +96,14 @@ value_sorted d s e (Err cause) = Err (refusal_of_sort cause)
 abbrev pub value_given : Document → Slot → Tree → Result Value Refusal
 value_given d s e = value_sorted d s e (bound_sort (type_of d s) (sort_of no_sorts 0 e))
 
+-- the same of what was read
+abbrev pub value_read : Document → Slot → Result Tree ExprFault → Result Value Refusal
+value_read d s (Ok e) = value_given d s e
+value_read d s (Err f) = Err (refusal_of_text f)
+
 -- a slot set to what was read
 abbrev pub set_to : Document → Slot → Result Tree ExprFault → Result Accepted Refusal
-set_to d s (Ok e) = on_one (λ v. accepted (with_content d s (Own v))) (value_given d s e)
-set_to d s (Err f) = Err (refusal_of_text f)
+set_to d s found = on_one (λ v. accepted (with_content d s (Own v))) (value_read d s found)
 
 -- the document behind an edit, or the first reason why it is refused: that its path names nothing
 -- comes first, and a fault of the edited document last

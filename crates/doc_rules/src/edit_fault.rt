@@ -1,3 +1,6 @@
+ghost use Rattle.std.specs.Prelude.{◌≡◌};
+ghost use Rattle.doc_rules.specs.declared.edit_fault.EditFault.TheVariants.{Memory};
+
 use crate::refusal::Refusal;
 use expr_grammar::ParseFault;
 use std::alloc::AllocError;
@@ -10,6 +13,14 @@ pub enum EditFault {
     Refused(Refusal),
     #[error("out of memory")]
     Memory(AllocError),
+}
+
+impl From<AllocError> for EditFault {
+    ghost from_gives = { λ cause e. e ≡ Memory cause };
+
+    fn from(cause: AllocError) -> EditFault {
+        EditFault::Memory(cause)
+    }
 }
 
 impl From<ParseFault> for EditFault {

@@ -11,7 +11,8 @@ ghost use Rattle.document_outcomes.specs.Faults.{IsValid};
 ghost use Rattle.document_outcomes.specs.Full.{fitted};
 ghost use Rattle.doc_tables.specs.Entries.{HasFewReferences};
 ghost use Rattle.doc_tables.specs.Numbered.{slot_at};
-ghost use Rattle.doc_rules.specs.Edits.{Answers, Becomes, IsNamed, MeetsEdit, accepted, bound_to, edited, fault_told, no_outcomes, no_sorts, refusal_of_fault, set_to, value_fitted, value_given};
+ghost use Rattle.doc_tables.specs.Primitives.{with_content_at};
+ghost use Rattle.doc_rules.specs.Edits.{Answers, Becomes, IsNamed, MeetsEdit, accepted, bound_to, edited, fault_told, no_outcomes, no_sorts, refusal_of_fault, set_to, value_fitted, value_given, value_read};
 ghost use Rattle.doc_rules.specs.declared.edit_fault.EditFault.TheVariants.{Refused};
 ghost use Rattle.doc_rules.specs.declared.refusal.Refusal.{Refusal};
 
@@ -23,6 +24,7 @@ use crate::edit_fault::EditFault;
 use crate::fault::{CheckFault, DocFault};
 use crate::refusal::Refusal;
 use crate::sort_rules::{given_as, number_of_cause};
+use crate::sorts::wanted_sort;
 use doc_tables::Tables;
 use document_model::Content;
 use expr_eval::{SortFault, SortOutcome, evaluate, sort_of};
@@ -41,20 +43,35 @@ fn refused_by(alloc: Global, fault: &DocFault) -> EditFault
     }
 }
 
-/// The tables with another content in a slot, unless the document has a fault then.
-fn with_rule(
+/// A copy of the tables with another content in a slot.
+fn with_content(
     alloc: Global,
     tables: &Tables,
     slot: SlotId,
-    rule: Content,
+    content: Content,
+) -> Result<Tables, AllocError>
+    requires live { IsSome (slot_at tables.now slot.0) }
+    requires references { HasFewReferences content }
+    ensures { IfOk result (λ edited. edited ≡ with_content_at tables.now slot.0 content) }
+{
+    let mut edited = tables.copy(alloc)?;
+    edited.set_rule(slot, content)?;
+    Ok(edited)
+}
+
+/// The tables with another content in a slot, unless the document has a fault then.
+fn accepted(
+    alloc: Global,
+    tables: &Tables,
+    slot: SlotId,
+    content: Content,
 ) -> Result<Tables, EditFault>
     requires live { IsSome (slot_at tables.now slot.0) }
-    requires references { HasFewReferences rule }
+    requires references { HasFewReferences content }
     ensures { (s : Slot) → slot_at tables.now slot.0 ≡ Some s
-        → Becomes tables.now (accepted (with_content tables.now.document s rule)) result }
+        → Becomes tables.now (accepted (with_content tables.now.document s content)) result }
 {
-    let mut edited = tables.copy(alloc).map_err(EditFault::Memory)?;
-    edited.set_rule(slot, rule).map_err(EditFault::Memory)?;
+    let edited = with_content(alloc, tables, slot, content)?;
     match check(alloc, &edited) {
         Ok(()) => Ok(edited),
         Err(CheckFault::Doc(fault)) => Err(refused_by(alloc, &fault)),
@@ -74,7 +91,7 @@ fn bound(
         → Becomes tables.now (bound_to tables.now.document s (expression_of text.now)) result }
 {
     let tree = parse(alloc, text)?;
-    with_rule(alloc, tables, slot, Content::Bound(tree))
+    accepted(alloc, tables, slot, Content::Bound(tree))
 }
 
 /// The sort of a closed expression.
@@ -137,13 +154,27 @@ fn value_given(
     ensures { (s : Slot) → slot_at tables.now slot.0 ≡ Some s → Answers (value_given tables.now.document s tree.now) result }
 {
     tables.holds_var_sets();
-    let prop = tables.type_of(slot);
-    let found = closed_sort(alloc, tree).map_err(EditFault::Memory)?;
-    if let Err(cause) = given_as(prop.map(|prop| prop.sort()), found) {
+    let found = closed_sort(alloc, tree)?;
+    if let Err(cause) = given_as(wanted_sort(tables, slot), found) {
         return Err(EditFault::Refused(Refusal::of(number_of_cause(cause))));
     }
-    let given = closed_outcome(alloc, tree).map_err(EditFault::Memory)?;
-    value_fitted(alloc, prop, given)
+    let given = closed_outcome(alloc, tree)?;
+    value_fitted(alloc, tables.type_of(slot), given)
+}
+
+/// The value that a text gives a slot.
+fn value_read(
+    alloc: Global,
+    tables: &Tables,
+    slot: SlotId,
+    text: &str,
+) -> Result<Value, EditFault>
+    requires { IsSome (slot_at tables.now slot.0) }
+    ensures { (s : Slot) → slot_at tables.now slot.0 ≡ Some s
+        → Answers (value_read tables.now.document s (closed_expression_of text.now)) result }
+{
+    let tree = parse_closed(alloc, text)?;
+    value_given(alloc, tables, slot, &tree)
 }
 
 /// The tables with a slot set to the value of a text.
@@ -157,9 +188,8 @@ fn set(
     ensures { (s : Slot) → slot_at tables.now slot.0 ≡ Some s
         → Becomes tables.now (set_to tables.now.document s (closed_expression_of text.now)) result }
 {
-    let tree = parse_closed(alloc, text)?;
-    let value = value_given(alloc, tables, slot, &tree)?;
-    with_rule(alloc, tables, slot, Content::Own(value))
+    let value = value_read(alloc, tables, slot, text)?;
+    accepted(alloc, tables, slot, Content::Own(value))
 }
 
 /// The tables behind an edit.

@@ -24,7 +24,7 @@ use property_types::{Sort, ValueFault};
 use std::alloc::{AllocError, Global};
 
 /// The sort of the type of a slot; none for a cell.
-fn wanted_sort(tables: &Tables, slot: SlotId) -> Option<Sort>
+pub fn wanted_sort(tables: &Tables, slot: SlotId) -> Option<Sort>
     requires { IsSome (slot_at tables.now slot.0) }
     ensures { result ≡ option_map sort_of_type (option_and_then (type_of tables.now.document) (slot_at tables.now slot.0)) }
 {

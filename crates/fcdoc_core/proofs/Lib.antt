@@ -1,5 +1,5 @@
+pub mod CuttingLemmas
 pub mod DeliveryLemmas
 pub mod ScriptLemmas
-pub mod ReplyLemmas
 pub mod RepliesLemmas
 pub mod HeadlineLemmas

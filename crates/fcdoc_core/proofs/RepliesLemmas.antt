@@ -1,5 +1,5 @@
 -- Replying line by line gives the replies to all lines.
-use Rattle.std.proofs.Common.{◌≡◌, ℕ, suc, ◌+◌, ◌<◌, ◌≤◌, Bool, true, false, ◌||◌, List, ◌∷◌, ◌++◌, length, map, take, drop, drop-cons, get_or, add-one, Option, None, Some, Ok, Err, refl, subst, sym, ap, ◌∙◌, append_assoc, arith, length-append, string_bytes, String, Global}
+use Rattle.std.proofs.Common.{◌≡◌, ℕ, suc, ◌+◌, ◌<◌, ◌≤◌, Bool, true, false, ◌||◌, List, ◌∷◌, ◌++◌, length, map, take, drop, drop-cons, get_or, add-one, Option, None, Some, Result, Ok, Err, refl, subst, sym, ap, ◌∙◌, append_assoc, arith, length-append, string_bytes, String, Global}
 use Rattle.std.specs.List.{flat_map, list_any}
 use Rattle.std.specs.Io.KnownBytes.{Appends}
 use Rattle.std.proofs.Math.Seq.{take-append-add}
@@ -7,26 +7,25 @@ use Rattle.std.proofs.lemmas.List.{take-append-le}
 use Rattle.fc_base.specs.Devices.{HasRisen}
 use Rattle.fcdoc_core.specs.declared.stop.Stop.{Stop}
 use Rattle.fcdoc_core.specs.declared.stop.Stop.TheVariants.{Store, Sink, Memory}
-use Rattle.fcdoc_core.specs.declared.command.Command.{Command}
-use Rattle.fcdoc_core.specs.declared.command.Command.TheVariants.{Get}
-use Rattle.fcdoc_core.specs.Commands.{command_of}
 use Rattle.fcdoc_core.specs.Delivery.{GaveLess, GaveFront}
-use Rattle.fcdoc_core.specs.Machine.{State, Answer, step_by, step, answers, answer_text, is_refusal}
+use Rattle.document_outcomes.specs.Typed.{no_features}
+use Rattle.doc_rules.specs.declared.refusal.Refusal.{Refusal}
+use Rattle.fcdoc_core.specs.declared.reply.Reply.{Reply}
+use Rattle.fcdoc_core.specs.Machine.{State, step_line, answers, is_refusal}
+use Rattle.fcdoc_core.specs.Replies.{answer_text}
 use Rattle.fcdoc_core.specs.Plans.{Tells, Speaks}
 use Rattle.fcdoc_core.specs.Top.{replies_of, status_of}
 use Rattle.fcdoc_core.specs.declared.status.Status.{Status}
 use Rattle.fcdoc_core.proofs.DeliveryLemmas.{SoFar, so_far-start, appends_more}
 
--- no command that is built changes the state
-state_by : (s : State) (c : Option Command) → (step_by s c).state ≡ s
-state_by s None = refl
-state_by s (Some (Get p)) = refl
+-- the answers of the machine without features, and the state behind a line
+abbrev pub answers_to : State → List (List ℕ) → List (Result Reply Refusal)
+answers_to s lines = answers no_features s lines
 
--- the replies to lines, and their text
-pub answers-cons : (s : State) (line : List ℕ) (lines : List (List ℕ)) → answers s (line ∷ lines) ≡ (step s line).answer ∷ answers s lines
-answers-cons s line lines = ap (λ (t : State). (step s line).answer ∷ answers t lines) (state_by s (command_of line))
+abbrev pub state_behind : State → List ℕ → State
+state_behind s line = (step_line no_features s line).state
 
-abbrev pub text_of_answers : List Answer → List ℕ
+abbrev pub text_of_answers : List (Result Reply Refusal) → List ℕ
 text_of_answers all = flat_map (λ piece. piece) (map answer_text all)
 
 -- the lines that are left begin with this one
@@ -35,19 +34,15 @@ lines_left lines i line below is = rw add-one (drop-cons lines i line below ∙ 
 
 -- what is left of the text, at a line of the script
 pub text_left : (s : State) (lines : List (String Global)) (i : ℕ) (line : String Global) → i < length lines → line ≡ get_or lines i line
-    → text_of_answers (answers s (map string_bytes (drop i lines)))
-    ≡ answer_text (step s (string_bytes line)).answer ++ text_of_answers (answers s (map string_bytes (drop (i + 1) lines)))
-text_left s lines i line below is =
-    ap (λ ls. text_of_answers (answers s (map string_bytes ls))) (lines_left lines i line below is)
-    ∙ ap text_of_answers (answers-cons s (string_bytes line) (map string_bytes (drop (i + 1) lines)))
+    → text_of_answers (answers_to s (map string_bytes (drop i lines)))
+    ≡ answer_text (step_line no_features s (string_bytes line)).answer ++ text_of_answers (answers_to (state_behind s (string_bytes line)) (map string_bytes (drop (i + 1) lines)))
+text_left s lines i line below is = ap (λ ls. text_of_answers (answers_to s (map string_bytes ls))) (lines_left lines i line below is)
 
 -- and whether a refusal is left
 pub refusal_left : (s : State) (lines : List (String Global)) (i : ℕ) (line : String Global) → i < length lines → line ≡ get_or lines i line
-    → list_any is_refusal (answers s (map string_bytes (drop i lines)))
-    ≡ (is_refusal (step s (string_bytes line)).answer || list_any is_refusal (answers s (map string_bytes (drop (i + 1) lines))))
-refusal_left s lines i line below is =
-    ap (λ ls. list_any is_refusal (answers s (map string_bytes ls))) (lines_left lines i line below is)
-    ∙ ap (list_any is_refusal) (answers-cons s (string_bytes line) (map string_bytes (drop (i + 1) lines)))
+    → list_any is_refusal (answers_to s (map string_bytes (drop i lines)))
+    ≡ (is_refusal (step_line no_features s (string_bytes line)).answer || list_any is_refusal (answers_to (state_behind s (string_bytes line)) (map string_bytes (drop (i + 1) lines))))
+refusal_left s lines i line below is = ap (λ ls. list_any is_refusal (answers_to s (map string_bytes ls))) (lines_left lines i line below is)
 
 -- a piece more was given
 pub so_far-piece : (all piece rest : List ℕ) (before mid after : Option (List ℕ)) → SoFar all (piece ++ rest) before mid → Appends mid after piece → SoFar all rest before after
@@ -92,33 +87,36 @@ refusals-step false is left next all h e = sym e ∙ h
 
 -- the replies so far, and those to the lines from i on, are the replies to all lines; refused tells of
 -- a refusal so far, and the sink's count of faults did not change
-pub record RepliesSoFar (s : State) (lines : List (String Global)) (i : ℕ) (refused : Bool) (before mid : Option (List ℕ)) (first old : ℕ) : Type 0 where
-  pub so_far : SoFar (text_of_answers (answers s (map string_bytes lines))) (text_of_answers (answers s (map string_bytes (drop i lines)))) before mid
-  pub refusals : (refused || list_any is_refusal (answers s (map string_bytes (drop i lines)))) ≡ list_any is_refusal (answers s (map string_bytes lines))
+pub record RepliesSoFar (s now : State) (lines : List (String Global)) (i : ℕ) (refused : Bool) (before mid : Option (List ℕ)) (first old : ℕ) : Type 0 where
+  pub so_far : SoFar (text_of_answers (answers_to s (map string_bytes lines))) (text_of_answers (answers_to now (map string_bytes (drop i lines)))) before mid
+  pub refusals : (refused || list_any is_refusal (answers_to now (map string_bytes (drop i lines)))) ≡ list_any is_refusal (answers_to s (map string_bytes lines))
   pub same_count : old ≡ first
 
-pub replies_so_far-start : (s : State) (lines : List (String Global)) (known : Option (List ℕ)) (count : ℕ) → RepliesSoFar s lines 0 false known known count count
+pub replies_so_far-start : (s : State) (lines : List (String Global)) (known : Option (List ℕ)) (count : ℕ) → RepliesSoFar s s lines 0 false known known count count
 replies_so_far-start s lines known count = record { so_far = so_far-start _ known; refusals = refl; same_count = refl }
 
-module _ (s : State) (lines : List (String Global)) (i : ℕ) (line : String Global) (text : List ℕ) (refused : Bool)
+module _ (s now : State) (lines : List (String Global)) (i : ℕ) (line : String Global) (text : List ℕ) (refused : Bool)
     (before mid after : Option (List ℕ)) (first old new : ℕ)
-    (below : i < length lines) (is : line ≡ get_or lines i line) (same : text ≡ string_bytes line) (r : RepliesSoFar s lines i refused before mid first old) where
-  left : SoFar (text_of_answers (answers s (map string_bytes lines))) (answer_text (step s text).answer ++ text_of_answers (answers s (map string_bytes (drop (i + 1) lines)))) before mid
-  left = rw same (rw (text_left s lines i line below is) at r.so_far)
+    (below : i < length lines) (is : line ≡ get_or lines i line) (same : text ≡ string_bytes line) (r : RepliesSoFar s now lines i refused before mid first old) where
+  left : SoFar (text_of_answers (answers_to s (map string_bytes lines))) (answer_text (step_line no_features now text).answer ++ text_of_answers (answers_to (state_behind now text) (map string_bytes (drop (i + 1) lines)))) before mid
+  left = rw same (rw (text_left now lines i line below is) at r.so_far)
+
+  refusal_is_left : list_any is_refusal (answers_to now (map string_bytes (drop i lines)))
+      ≡ (is_refusal (step_line no_features now text).answer || list_any is_refusal (answers_to (state_behind now text) (map string_bytes (drop (i + 1) lines))))
+  refusal_is_left = rw same (refusal_left now lines i line below is)
 
   -- a reply more was written
-  pub replies_so_far-goes_on : (is_one : Bool) → Tells (answer_text (step s text).answer) (λ b. b ≡ is_refusal (step s text).answer) (Ok is_one) mid after old new
-      → RepliesSoFar s lines (i + 1) (refused || is_one) before after first new
-  replies_so_far-goes_on is_one told = record {
+  pub replies_so_far-goes_on : (is_one : Bool) → Tells (answer_text (step_line no_features now text).answer) (λ b. b ≡ is_refusal (step_line no_features now text).answer) (Ok is_one) mid after old new
+      → (then : State) → then ≡ state_behind now text → RepliesSoFar s then lines (i + 1) (refused || is_one) before after first new
+  replies_so_far-goes_on is_one told then behind = rw behind (record {
     so_far = so_far-piece _ _ _ before mid after left told.1;
-    refusals = refusals-step refused is_one _ (list_any is_refusal (answers s (map string_bytes (drop (i + 1) lines)))) _ r.refusals
-        (refusal_left s lines i line below is ∙ ap (λ t. is_refusal (step s t).answer || list_any is_refusal (answers s (map string_bytes (drop (i + 1) lines)))) (sym same)
-        ∙ ap (λ b. b || list_any is_refusal (answers s (map string_bytes (drop (i + 1) lines)))) (sym told.0));
+    refusals = refusals-step refused is_one _ (list_any is_refusal (answers_to (state_behind now text) (map string_bytes (drop (i + 1) lines)))) _ r.refusals
+        (refusal_is_left ∙ ap (λ b. b || list_any is_refusal (answers_to (state_behind now text) (map string_bytes (drop (i + 1) lines)))) (sym told.0));
     same_count = told.2 ∙ r.same_count;
-  }
+  })
 
   -- a reply was not written
-  pub replies_so_far-stops : (stop : Stop) → Tells {X = Bool} (answer_text (step s text).answer) (λ b. b ≡ is_refusal (step s text).answer) (Err stop) mid after old new
-      → Speaks (replies_of (answers s (map string_bytes lines))) (Err stop) before after first new
-  replies_so_far-stops stop told = tells-stops _ (answer_text (step s text).answer) _ (λ b. b ≡ is_refusal (step s text).answer)
-      (λ (status : Status). status ≡ status_of (answers s (map string_bytes lines))) stop before mid after first old new left r.same_count told
+  pub replies_so_far-stops : (stop : Stop) → Tells {X = Bool} (answer_text (step_line no_features now text).answer) (λ b. b ≡ is_refusal (step_line no_features now text).answer) (Err stop) mid after old new
+      → Speaks (replies_of (answers_to s (map string_bytes lines))) (Err stop) before after first new
+  replies_so_far-stops stop told = tells-stops _ (answer_text (step_line no_features now text).answer) _ (λ b. b ≡ is_refusal (step_line no_features now text).answer)
+      (λ (status : Status). status ≡ status_of (answers_to s (map string_bytes lines))) stop before mid after first old new left r.same_count told

@@ -1,6 +1,6 @@
 -- The commands that lines spell.
 use Rattle.std.specs.Prelude.{ℕ, List, [], ◌∷◌, reverse, nat_lt, Bool, true, false, not, ◌==◌, ◌&&◌, Option, None, Some, Result, Ok, Err, if◌then◌else◌, codes, ◌≡◌}
-use Rattle.std.specs.List.{list_any}
+use Rattle.std.specs.List.{after_first, before_first, list_any}
 use Rattle.std.specs.Option.{option_and_then, option_map}
 use Rattle.std.specs.Str.{bytes_eq}
 use Rattle.object_paths.specs.declared.path.Path.{Path}
@@ -28,13 +28,11 @@ unspaced text = reverse (after_spaces (reverse (after_spaces text)))
 
 -- what stands before the first space
 abbrev pub first_word : List ℕ → List ℕ
-first_word [] = []
-first_word (c ∷ cs) = if c == 32 then [] else c ∷ first_word cs
+first_word line = before_first (λ c. c == 32) line
 
 -- what stands behind the first space, without outer spaces
 abbrev pub behind_word : List ℕ → List ℕ
-behind_word [] = []
-behind_word (c ∷ cs) = if c == 32 then unspaced cs else behind_word cs
+behind_word line = unspaced (after_first (λ c. c == 32) line)
 
 -- The first word of a line, the second, and the rest of the line without outer spaces.
 pub record Parts : Type 0 where

@@ -2,11 +2,13 @@ pub mod Commands
 pub mod Delivery
 pub mod Headline
 pub mod Machine
+pub mod OpenFaults
 pub mod Opening
 pub mod Plans
 pub mod Replies
 pub mod Scripts
 pub mod Sessions
+pub mod StepFaults
 pub mod Stepping
 pub mod Top
 pub mod Words

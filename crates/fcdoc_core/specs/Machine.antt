@@ -71,8 +71,8 @@ expression_by_rule (Some (global k)) = None
 expression_by_rule (Some (output k)) = None
 
 -- `expr`: the expression to which the slot is bound that the path names
-abbrev pub expression_told : State → Path → Result Reply Refusal
-expression_told s path = on_one (λ slot. Ok (reply.Expression (expression_by_rule (rule_of s.now slot)))) (slot_commanded s.now path)
+abbrev pub expression_told : Document → Path → Result Reply Refusal
+expression_told d path = on_one (λ slot. Ok (reply.Expression (expression_by_rule (rule_of d slot)))) (slot_commanded d path)
 
 -- an edit: a refused one changes nothing
 abbrev pub edited_to : State → Result Accepted Refusal → Stepped
@@ -90,7 +90,7 @@ recomputed m s = record {
 abbrev pub step : Meanings → State → Command → Stepped
 step m s (command.Edit edit) = edited_to s (edited s.now edit)
 step m s (command.Get path) = asked s (got m s path)
-step m s (command.Expression path) = asked s (expression_told s path)
+step m s (command.Expression path) = asked s (expression_told s.now path)
 step m s command.Recompute = recomputed m s
 
 -- ---- lines

@@ -2,7 +2,9 @@
 use Rattle.std.specs.Prelude.{◌≡◌, ℕ, ◌≤◌, List, length, Option, None, Some, Result, Ok, Err, IfSome, string_bytes}
 use Rattle.std.specs.Io.KnownBytes.{Appends}
 use Rattle.fc_base.specs.Devices.{Held, HasRisen}
+use Rattle.document_outcomes.specs.Typed.{no_features}
 use Rattle.fcdoc_core.specs.declared.status.Status.{Status}
+use Rattle.fcdoc_core.specs.declared.status.Status.TheVariants as status
 use Rattle.fcdoc_core.specs.declared.plan.Plan.{Plan}
 use Rattle.fcdoc_core.specs.declared.plan.Plan.TheVariants.{Usage, Missing, DocumentRefused, ScriptRefused, Replies}
 use Rattle.fcdoc_core.specs.declared.stop.Stop.{Stop}
@@ -14,15 +16,15 @@ use Rattle.fcdoc_core.specs.declared.plan.Found.TheVariants.{Bytes, TooLong, Not
 use Rattle.fcdoc_core.specs.Scripts.{most_bytes}
 use Rattle.fcdoc_core.specs.Delivery.{GaveLess, GaveFront}
 use Rattle.fcdoc_core.specs.Machine.{answers}
-use Rattle.fcdoc_core.specs.Top.{Top, text_of, usage, missing, document_refused, script_refused, replies_of}
+use Rattle.fcdoc_core.specs.Top.{Top, text_of, one_piece, usage, missing, script_refused, replies_of}
 
 -- what is to be written: one line, or the replies to a script
 abbrev pub top_of_plan : Plan → Top
 top_of_plan Usage = usage
 top_of_plan (Missing name) = missing (string_bytes name)
-top_of_plan DocumentRefused = document_refused
+top_of_plan (DocumentRefused line) = one_piece status.DocumentRefused line.items
 top_of_plan ScriptRefused = script_refused
-top_of_plan (Replies document lines) = replies_of (answers (record { now = document }) lines)
+top_of_plan (Replies session lines) = replies_of (answers no_features session lines)
 
 -- the plan is the meaning of the words, where the store tells what it holds
 abbrev pub Means : Option Held → (Held → Top) → Plan → Type 0

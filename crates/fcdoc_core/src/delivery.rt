@@ -1,20 +1,20 @@
 //! Writes what a run is to write, piece by piece.
 
 ghost use Rattle.std.specs.Prelude.{◌≡◌, map, string_bytes, IsTrue, IfOk};
+ghost use Rattle.document_outcomes.specs.Typed.{no_features};
 ghost use Rattle.fcdoc_core.specs.Headline.{is_end};
-ghost use Rattle.fcdoc_core.specs.Commands.{command_of};
 ghost use Rattle.fcdoc_core.specs.Delivery.{Delivers};
-ghost use Rattle.fcdoc_core.specs.Machine.{answer_text, is_refusal, step, answers};
+ghost use Rattle.fcdoc_core.specs.Machine.{answers, is_refusal, step_line};
+ghost use Rattle.fcdoc_core.specs.Replies.{answer_text};
 ghost use Rattle.fcdoc_core.specs.Plans.{Tells, Speaks, top_of_plan};
 ghost use Rattle.fcdoc_core.specs.Top.{one_piece, missing, replies_of};
 
+use crate::answering::answer_to;
 use crate::plan::Plan;
-use crate::script::Script;
+use crate::session::Session;
 use crate::status::Status;
 use crate::stop::Stop;
-use crate::{machine, reading};
-use fc_base::{DeviceFault, Sink};
-use fcdoc_file::FirstDocument;
+use fc_base::{DeviceFault, Sink, Steps};
 use std::alloc::Global;
 
 /// The line for words that have none of the forms of a run.
@@ -34,10 +34,10 @@ fn offer<K: Sink>(out: &mut K, piece: &[u8]) -> Result<(), DeviceFault>
 }
 
 /// Writes a text, and answers with the value that goes with it.
-fn say<K: Sink>(out: &mut K, text: &str) -> Result<(), Stop>
+fn say<K: Sink>(out: &mut K, text: &[u8]) -> Result<(), Stop>
     ensures { Tells text.now (λ _. Unit {0}) result (K.written out.old) (K.written out.new) (K.faults out.old) (K.faults out.new) }
 {
-    match offer(out, text.as_bytes()) {
+    match offer(out, text) {
         Ok(()) => Ok(()),
         Err(DeviceFault::Failed) => Err(Stop::Sink),
         Err(DeviceFault::Memory(_)) => Err(Stop::Memory),
@@ -47,22 +47,19 @@ fn say<K: Sink>(out: &mut K, text: &str) -> Result<(), Stop>
 /// Runs a line and writes the reply, and answers whether it is a refusal.
 fn reply_to<K: Sink>(
     alloc: Global,
-    document: &FirstDocument,
+    session: &mut Session,
     line: &str,
     out: &mut K,
 ) -> Result<bool, Stop>
-    ensures { let answer = (step (record { now = document.now }) line.now).answer in
+    ensures told { let answer = (step_line no_features session.old line.now).answer in
         Tells (answer_text answer) (λ refused. refused ≡ is_refusal answer) result (K.written out.old) (K.written out.new) (K.faults out.old) (K.faults out.new) }
+    ensures state { IfOk result (λ _. session.new ≡ (step_line no_features session.old line.now).state) }
 {
-    let Ok(command) = reading::command_of(alloc, line) else {
+    let Ok(answer) = answer_to(alloc, session, line, &mut Steps::new(())) else {
         return Err(Stop::Memory);
     };
-    let reply = machine::step(document, &command);
-    let Ok(text) = reply.write(alloc) else {
-        return Err(Stop::Memory);
-    };
-    match say(out, text.as_str()) {
-        Ok(()) => Ok(reply.is_refusal()),
+    match say(out, answer.text.as_slice()) {
+        Ok(()) => Ok(answer.is_refusal),
         Err(stop) => Err(stop),
     }
 }
@@ -70,15 +67,15 @@ fn reply_to<K: Sink>(
 /// Runs the lines and writes the replies, and answers whether one is a refusal.
 fn reply_to_all<K: Sink>(
     alloc: Global,
-    document: &FirstDocument,
+    session: &mut Session,
     lines: &[String],
     out: &mut K,
 ) -> Result<Status, Stop>
-    ensures { Speaks (replies_of (answers (record { now = document.now }) (map string_bytes lines.now))) result (K.written out.old) (K.written out.new) (K.faults out.old) (K.faults out.new) }
+    ensures { Speaks (replies_of (answers no_features session.old (map string_bytes lines.now))) result (K.written out.old) (K.written out.new) (K.faults out.old) (K.faults out.new) }
 {
     let mut refused = false;
     for line in lines {
-        match reply_to(alloc, document, line.as_str(), out) {
+        match reply_to(alloc, session, line.as_str(), out) {
             Ok(is_refusal) => refused |= is_refusal,
             Err(stop) => return Err(stop),
         }
@@ -91,7 +88,7 @@ fn reply_to_all<K: Sink>(
 }
 
 /// Writes one line, and answers the status that goes with it.
-fn say_line<K: Sink>(out: &mut K, text: &str, status: Status) -> Result<Status, Stop>
+fn say_line<K: Sink>(out: &mut K, text: &[u8], status: Status) -> Result<Status, Stop>
     ensures { Speaks (one_piece status text.now) result (K.written out.old) (K.written out.new) (K.faults out.old) (K.faults out.new) }
 {
     match say(out, text) {
@@ -104,25 +101,23 @@ fn say_missing<K: Sink>(alloc: Global, out: &mut K, name: &str) -> Result<Status
     ensures { Speaks (missing name.now) result (K.written out.old) (K.written out.new) (K.faults out.old) (K.faults out.new) }
 {
     match format!(in alloc; "missing {name}\n") {
-        Ok(text) => say_line(out, text.as_str(), Status::Missing),
+        Ok(text) => say_line(out, text.as_bytes(), Status::Missing),
         Err(_) => Err(Stop::Memory),
     }
 }
 
 /// Writes what a plan says, and answers its status.
-pub(crate) fn deliver<K: Sink>(alloc: Global, plan: &Plan, out: &mut K) -> Result<Status, Stop>
-    ensures spoken { Speaks (top_of_plan plan.now) result (K.written out.old) (K.written out.new) (K.faults out.old) (K.faults out.new) }
+pub(crate) fn deliver<K: Sink>(alloc: Global, plan: Plan, out: &mut K) -> Result<Status, Stop>
+    ensures spoken { Speaks (top_of_plan plan) result (K.written out.old) (K.written out.new) (K.faults out.old) (K.faults out.new) }
     ensures ended { IfOk result (λ status. IsTrue (is_end status)) }
 {
     match plan {
-        Plan::Usage => say_line(out, USAGE, Status::Usage),
+        Plan::Usage => say_line(out, USAGE.as_bytes(), Status::Usage),
         Plan::Missing(name) => say_missing(alloc, out, name.as_str()),
-        Plan::DocumentRefused => say_line(
-            out,
-            "document refused NotBuilt\n",
-            Status::DocumentRefused,
-        ),
-        Plan::ScriptRefused => say_line(out, "script refused NotBuilt\n", Status::ScriptRefused),
-        Plan::Replies(document, script) => reply_to_all(alloc, document, script.lines(), out),
+        Plan::DocumentRefused(line) => say_line(out, line.as_slice(), Status::DocumentRefused),
+        Plan::ScriptRefused => say_line(out, b"script refused NotBuilt\n", Status::ScriptRefused),
+        Plan::Replies(mut session, script) => {
+            reply_to_all(alloc, &mut session, script.lines(), out)
+        }
     }
 }

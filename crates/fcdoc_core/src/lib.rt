@@ -1,20 +1,29 @@
 //! Runs scripts on documents.
 #![tactic(auto)]
 
+mod answering;
+mod asking;
 mod command;
+mod cutting;
 mod delivery;
-mod machine;
+mod opening;
 mod plan;
 mod reading;
 mod reply;
 mod script;
+mod session;
 mod status;
+mod step_fault;
 mod stop;
 #[cfg(test)]
 mod tests;
 mod top;
+mod writing;
 
-pub use command::Command;
-pub use reply::{Refusal, Reply};
+pub use command::{Command, CommandFault};
+pub use opening::OpenFault;
+pub use reply::{ExprText, Reply};
+pub use session::Session;
 pub use status::Status;
+pub use step_fault::StepFault;
 pub use top::run;

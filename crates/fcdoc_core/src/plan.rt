@@ -1,18 +1,22 @@
 //! Finds out what a run is to write: the words, the document and the script.
 
-ghost use Rattle.std.specs.Prelude.{◌≡◌, ◌++◌, map, codes, Option, None, Some, IfOk, IfSome, OnErr, string_bytes, Err};
+ghost use Rattle.std.specs.Prelude.{◌≡◌, ◌++◌, map, codes, Option, None, Some, IfOk, IfSome, OnErr, string_bytes, Ok, Err};
 ghost use Rattle.fc_base.specs.Devices.{Fetches};
 ghost use Rattle.fcdoc_core.specs.Plans.{Means, CountsStop, IsFound, top_of_plan};
 ghost use Rattle.fcdoc_core.specs.Scripts.{script_of};
-ghost use Rattle.fcdoc_core.specs.Top.{top, top_of_names, top_of_document, top_of_lines, missing};
-ghost use Rattle.fcdoc_file.specs.Reading.{document_of};
+ghost use Rattle.document_outcomes.specs.Typed.{no_features};
+ghost use Rattle.fcdoc_core.specs.OpenFaults.{HasLine, open_fault_text};
+ghost use Rattle.fcdoc_core.specs.declared.status.Status.TheVariants.{DocumentRefused};
+ghost use Rattle.fcdoc_core.specs.Opening.{opened_of};
+ghost use Rattle.fcdoc_core.specs.Top.{missing, one_piece, top, top_of_lines, top_of_names, top_of_state};
 ghost use Rattle.std.specs.FinMap.{get};
 ghost use Rattle.fcdoc_core.specs.Words.{names_of};
 
+use crate::opening::OpenFault;
 use crate::script::{MOST_BYTES, Script};
+use crate::session::Session;
 use crate::stop::Stop;
 use fc_base::{FetchFault, Store};
-use fcdoc_file::{FirstDocument, LoadError, load};
 use std::alloc::{AllocError, Global};
 
 /// What a run is to write.
@@ -21,10 +25,11 @@ pub(crate) enum Plan {
     Usage,
     /// The store holds no such name.
     Missing(String),
-    DocumentRefused,
+    /// The document is refused, with this line.
+    DocumentRefused(Vec<u8>),
     ScriptRefused,
-    /// The replies of a document to the lines of a script.
-    Replies(FirstDocument, Script),
+    /// The replies of a session to the lines of a script.
+    Replies(Session, Script),
 }
 
 /// What stands under a name of the store.
@@ -60,45 +65,64 @@ fn missing(alloc: Global, name: &str) -> Result<Plan, Stop>
     }
 }
 
-fn document_of(alloc: Global, bytes: &[u8]) -> Result<Option<FirstDocument>, Stop>
-    ensures found { IfOk result (λ d. d ≡ document_of bytes.now) }
+/// The line of a document that is not opened.
+fn refused(alloc: Global, fault: &OpenFault) -> Result<Plan, Stop>
+    requires { HasLine fault.now }
+    ensures plan { IfOk result (λ plan. top_of_plan plan ≡ one_piece DocumentRefused (open_fault_text fault.now)) }
     ensures stop { OnErr result (result ≡ Err Stop.Memory) }
 {
-    match load(alloc, bytes) {
-        Ok(document) => Ok(Some(document)),
-        Err(LoadError::NotBuilt) => Ok(None),
-        Err(LoadError::Memory(_)) => Err(Stop::Memory),
+    match fault.write(alloc) {
+        Ok(line) => Ok(Plan::DocumentRefused(line)),
+        Err(_) => Err(Stop::Memory),
     }
 }
 
-/// What follows for a document and the bytes of a script.
-fn plan_of_script(alloc: Global, document: FirstDocument, bytes: &[u8]) -> Result<Plan, Stop>
-    ensures plan { IfOk result (λ plan. top_of_plan plan ≡ top_of_lines document (script_of bytes.now)) }
+/// What follows for a session and the bytes of a script.
+fn plan_of_script(alloc: Global, session: Session, bytes: &[u8]) -> Result<Plan, Stop>
+    ensures plan { IfOk result (λ plan. top_of_plan plan ≡ top_of_lines no_features session (script_of bytes.now)) }
     ensures stop { OnErr result (result ≡ Err Stop.Memory) }
 {
     match Script::read(alloc, bytes) {
-        Ok(Some(script)) => Ok(Plan::Replies(document, script)),
+        Ok(Some(script)) => Ok(Plan::Replies(session, script)),
         Ok(None) => Ok(Plan::ScriptRefused),
         Err(_) => Err(Stop::Memory),
     }
 }
 
-/// What follows for a document and a script of that name.
-fn plan_of_document<S: Store>(
+/// What follows for a session and a script of that name.
+fn plan_of_session<S: Store>(
     alloc: Global,
     store: &mut S,
-    document: FirstDocument,
+    session: Session,
     script: &str,
 ) -> Result<Plan, Stop>
-    ensures told { IfOk result (Means (S.holds store.old) (λ held. top_of_document script.now (get held script.now) (Some document))) }
+    ensures told { IfOk result (Means (S.holds store.old) (λ held. top_of_state no_features script.now (get held script.now) (Ok session))) }
     ensures holds { S.holds store.new ≡ S.holds store.old }
     ensures count { CountsStop result (S.faults store.old) (S.faults store.new) }
 {
     match find(alloc, store, script) {
-        Ok(Found::Bytes(bytes)) => plan_of_script(alloc, document, &bytes),
+        Ok(Found::Bytes(bytes)) => plan_of_script(alloc, session, &bytes),
         Ok(Found::TooLong) => Ok(Plan::ScriptRefused),
         Ok(Found::Nothing) => missing(alloc, script),
         Err(stop) => Err(stop),
+    }
+}
+
+/// What follows for the bytes of a document, within the limit, and a script of that name.
+fn plan_of_document<S: Store>(
+    alloc: Global,
+    store: &mut S,
+    document: &[u8],
+    script: &str,
+) -> Result<Plan, Stop>
+    ensures told { IfOk result (Means (S.holds store.old) (λ held. top_of_state no_features script.now (get held script.now) (opened_of document.now))) }
+    ensures holds { S.holds store.new ≡ S.holds store.old }
+    ensures count { CountsStop result (S.faults store.old) (S.faults store.new) }
+{
+    match Session::open(alloc, document) {
+        Ok(session) => plan_of_session(alloc, store, session, script),
+        Err(OpenFault::Memory(_)) => Err(Stop::Memory),
+        Err(fault) => refused(alloc, &fault),
     }
 }
 
@@ -109,19 +133,14 @@ fn plan_of_names<S: Store>(
     document: &str,
     script: &str,
 ) -> Result<Plan, Stop>
-    ensures told { IfOk result (Means (S.holds store.old) (λ held. top_of_names (record { document = document.now; script = script.now }) (get held document.now) (get held script.now))) }
+    ensures told { IfOk result (Means (S.holds store.old) (λ held. top_of_names no_features (record { document = document.now; script = script.now }) (get held document.now) (get held script.now))) }
     ensures holds { S.holds store.new ≡ S.holds store.old }
     ensures count { CountsStop result (S.faults store.old) (S.faults store.new) }
 {
-    let bytes = match find(alloc, store, document) {
-        Ok(Found::Bytes(bytes)) => bytes,
-        Ok(Found::TooLong) => return Ok(Plan::DocumentRefused),
-        Ok(Found::Nothing) => return missing(alloc, document),
-        Err(stop) => return Err(stop),
-    };
-    match document_of(alloc, &bytes) {
-        Ok(Some(found)) => plan_of_document(alloc, store, found, script),
-        Ok(None) => Ok(Plan::DocumentRefused),
+    match find(alloc, store, document) {
+        Ok(Found::Bytes(bytes)) => plan_of_document(alloc, store, &bytes, script),
+        Ok(Found::TooLong) => refused(alloc, &OpenFault::NotBuilt),
+        Ok(Found::Nothing) => missing(alloc, document),
         Err(stop) => Err(stop),
     }
 }
@@ -133,7 +152,7 @@ pub(crate) fn plan_of_words<S: Store>(
     words: &[String],
     store: &mut S,
 ) -> Result<Plan, Stop>
-    ensures told { IfOk result (Means (S.holds store.old) (top (map string_bytes words.now))) }
+    ensures told { IfOk result (Means (S.holds store.old) (top no_features (map string_bytes words.now))) }
     ensures holds { S.holds store.new ≡ S.holds store.old }
     ensures count { CountsStop result (S.faults store.old) (S.faults store.new) }
 {

@@ -2,11 +2,19 @@
 
 ghost use Rattle.std.specs.Prelude.{◌≤◌};
 
+use crate::command::Command;
+use crate::opening::OpenFault;
+use crate::reply::Reply;
+use crate::session::Session;
 use crate::status::Status;
 use crate::top::run;
-use fc_base::{MemorySink, MemoryStore};
+use doc_rules::DocFault;
+use fc_base::{MemorySink, MemoryStore, Steps, TextValue};
+use property_types::Value;
+use quantities::{Amount, Quantity};
 use std::alloc::{AllocError, Global};
 use std::test::Fail;
+use unit_signatures::unit_named;
 
 /// The VarSet V with the Float a, which is 2.
 const ONE_VARSET: &str =
@@ -72,7 +80,8 @@ fn reads_one_value(rt: HostRuntime) -> Result<(), Fail> {
 #[test]
 fn refusals_of_get(rt: HostRuntime) -> Result<(), Fail> {
     let script = "get V.a\nget V.b\nget W.a\nrecompute\n";
-    let text = "= 2\nrefused 3 NoProperty\nrefused 2 NoObject\nrefused 99 NotBuilt\n";
+    let text =
+        "= 2\nrefused 3 NoProperty\nrefused 2 NoObject\nrecomputed 0 calls 0 faults\n";
     assert!(rt; answers(rt.alloc(), script, Status::SomeRefused, text)?);
     Ok(())
 }
@@ -148,5 +157,69 @@ fn usage_and_script_refused(rt: HostRuntime) -> Result<(), Fail> {
     let words = words(alloc, "D")?;
     let refused = (Status::ScriptRefused, "script refused NotBuilt\n");
     assert!(rt; ends(alloc, &mut store, &words, &mut sink, refused));
+    Ok(())
+}
+
+#[test]
+fn never_stale(rt: HostRuntime) -> Result<(), Fail> {
+    let script = "bind V.a 2^3\nget V.a\nrecompute\nget V.a\nexpr V.a\nbind V.a V.a\nset V.a 1/4\nget V.a\nexpr V.a\n";
+    let text = "ok\nrefused 28 NotRecomputed\nrecomputed 0 calls 0 faults\n= 8\n: 2^3\nrefused 14 Cycle V.a\nok\n= 0.25\n: none\n";
+    assert!(rt; answers(rt.alloc(), script, Status::SomeRefused, text)?);
+    Ok(())
+}
+
+/// The steps that the commands of these lines take.
+fn steps_of(alloc: Global, lines: &[&str]) -> Result<u64, Fail> {
+    let mut session = Session::open(alloc, ONE_VARSET.as_bytes())?;
+    let mut steps = Steps::new(());
+    for line in lines {
+        let command = Command::read(alloc, line)?;
+        let _ = session.step(&command, &mut steps)?;
+    }
+    Ok(steps.count())
+}
+
+#[test]
+fn recompute_counts_nodes(rt: HostRuntime) -> Result<(), Fail> {
+    assert_eq!(rt; steps_of(rt.alloc(), &["bind V.a 1 + 2 * 3", "recompute"])?, 5);
+    assert_eq!(rt; steps_of(rt.alloc(), &["bind V.a true ? 1 : 2", "recompute"])?, 3);
+    assert_eq!(rt; steps_of(rt.alloc(), &["set V.a 1 + 2", "recompute", "get V.a"])?, 0);
+    Ok(())
+}
+
+/// The line of a value.
+fn line_of(alloc: Global, value: Value) -> Result<Vec<u8>, AllocError> {
+    Reply::Value(Ok(value)).write(alloc)
+}
+
+#[test]
+fn writes_values(rt: HostRuntime) -> Result<(), Fail> {
+    let alloc = rt.alloc();
+    let (_, unit) = unit_named("N").unwrap();
+    let amount = Amount::of_raw(-1_500_000_000)?;
+    let force = line_of(alloc, Value::Number(Quantity { amount, unit }))?;
+    assert_eq!(rt; force.as_slice(), b"= -1.5 mm*kg*s^-2\n".as_slice());
+    let flag = line_of(alloc, Value::Flag(true))?;
+    assert_eq!(rt; flag.as_slice(), b"= true\n".as_slice());
+    let text = TextValue::read(alloc, "a \"b\" \\ c\n\r\t")?;
+    let text = line_of(alloc, Value::Text(text))?;
+    assert_eq!(rt; text.as_slice(), b"= \"a \\\"b\\\" \\\\ c\\n\\r\\t\"\n".as_slice());
+    Ok(())
+}
+
+#[test]
+fn writes_faults_of_documents(rt: HostRuntime) -> Result<(), Fail> {
+    let alloc = rt.alloc();
+    let subject = TextValue::read(alloc, "V")?;
+    let fault = OpenFault::Doc(DocFault { number: 6, subject });
+    let text = b"document refused 6 LabelTaken V\n";
+    assert_eq!(rt; fault.write(alloc)?.as_slice(), text.as_slice());
+    let subject = TextValue::of(String::new(alloc));
+    let fault = OpenFault::Doc(DocFault {
+        number: 29,
+        subject,
+    });
+    let text = b"document refused 29 TooMany\n";
+    assert_eq!(rt; fault.write(alloc)?.as_slice(), text.as_slice());
     Ok(())
 }

@@ -1,4 +1,5 @@
 ghost use Rattle.std.specs.Prelude.{◌≡◌, map, string_bytes, IfSome};
+ghost use Rattle.document_outcomes.specs.Typed.{no_features};
 ghost use Rattle.fcdoc_core.specs.Headline.{Writes, HasCauses, IsComplete};
 ghost use Rattle.fcdoc_core.specs.Top.{top};
 
@@ -11,20 +12,21 @@ use std::alloc::Global;
 /// Runs the script that the words name on the document that they name, and writes the replies: the
 /// words are `run DOC SCRIPT`, names of the store.
 ///
-/// Where the store tells what it holds, what is written and the status are those of `top`, which
-/// knows whole documents alone. A device is blamed only where its count of faults rose.
+/// Where the store tells what it holds, what is written and the status are those of `top`, a machine
+/// that keeps whole documents and works everything out from them at each recompute. A device is blamed
+/// only where its count of faults rose.
 pub fn run<S: Store, K: Sink>(alloc: Global, words: &[String], store: &mut S, out: &mut K) -> Status
-    ensures headline { IfSome (S.holds store.old) (λ held. Writes (top (map string_bytes words.now) held) result (K.written out.old) (K.written out.new)) }
+    ensures headline { IfSome (S.holds store.old) (λ held. Writes (top no_features (map string_bytes words.now) held) result (K.written out.old) (K.written out.new)) }
     ensures store { S.holds store.new ≡ S.holds store.old }
     ensures causes { HasCauses result (record { store_before = S.faults store.old; store_after = S.faults store.new; sink_before = K.faults out.old; sink_after = K.faults out.new }) }
-    ensures complete { IfSome (S.holds store.old) (λ held. IsComplete (top (map string_bytes words.now) held) result (record { store_before = S.faults store.old; store_after = S.faults store.new; sink_before = K.faults out.old; sink_after = K.faults out.new })) }
+    ensures complete { IfSome (S.holds store.old) (λ held. IsComplete (top no_features (map string_bytes words.now) held) result (record { store_before = S.faults store.old; store_after = S.faults store.new; sink_before = K.faults out.old; sink_after = K.faults out.new })) }
 {
     let plan = match plan::plan_of_words(alloc, words, store) {
         Ok(plan) => plan,
         Err(Stop::Store) => return Status::StoreFault,
         Err(_) => return Status::Memory,
     };
-    match delivery::deliver(alloc, &plan, out) {
+    match delivery::deliver(alloc, plan, out) {
         Ok(status) => status,
         Err(Stop::Sink) => Status::SinkFault,
         Err(_) => Status::Memory,

@@ -42,7 +42,10 @@ fn push_escaped(byte: u8, text: &mut Vec<u8>) -> Result<(), AllocError>
         b'\n' => text.extend_from_slice(b"\\n"),
         b'\r' => text.extend_from_slice(b"\\r"),
         b'\t' => text.extend_from_slice(b"\\t"),
-        _ => text.push(byte),
+        _ => {
+            text.push(byte)?;
+            Ok(())
+        }
     }
 }
 
@@ -54,7 +57,8 @@ fn push_quoted(value: &TextValue, text: &mut Vec<u8>) -> Result<(), AllocError>
     for byte in value.as_str().as_bytes() {
         push_escaped(*byte, text)?;
     }
-    text.push(b'"')
+    text.push(b'"')?;
+    Ok(())
 }
 
 /// Adds a value.

@@ -1,0 +1,188 @@
+-- The numbers of faults and of refusals have names, and what is accepted is valid.
+use Rattle.std.proofs.Common.{◌≡◌, ℕ, Bool, true, false, cond, List, [], ◌∷◌, Option, Some, None, Result, Ok, Err, refl, sym, ap, subst, ◌∙◌, IsTrue}
+use Rattle.std.specs.Option.{option_map, option_or}
+use Rattle.object_paths.specs.declared.path.Path.{Path}
+use Rattle.object_paths.specs.Slots.{Slot}
+use Rattle.property_types.specs.declared.value.Value.{Value}
+use Rattle.property_types.specs.Values.{Outcome}
+use Rattle.expr_grammar.specs.Tree.{Tree}
+use Rattle.expr_grammar.specs.declared.fault.ExprFault.{ExprFault}
+use Rattle.expr_eval.specs.declared.sort_cause.SortCause.{SortCause}
+use Rattle.expr_eval.specs.declared.sort_cause.SortCause.TheVariants.{UnitMismatch, KindMismatch, ExponentRange}
+use Rattle.expr_eval.specs.Firsts.{on_one}
+use Rattle.expr_eval.specs.SortRows.{SortOutcome}
+use Rattle.document_model.specs.Document.{Document, Object}
+use Rattle.document_model.specs.Slots.{slots}
+use Rattle.document_outcomes.specs.Sorts.{sort}
+use Rattle.document_outcomes.specs.Faults.{Fault, IsValid, first_fault, fault_within_limits, limit_faults, label_faults, link_faults, reference_fault, reference_faults, cycle_faults, sort_fault, sort_faults, range_faults, first_some, object_fault, slot_fault, number_of_cause}
+use Rattle.doc_rules.specs.declared.edit.Edit.{Edit}
+use Rattle.doc_rules.specs.declared.edit.Edit.TheVariants.{SetValue, Bind}
+use Rattle.doc_rules.specs.declared.refusal.Refusal.{Refusal}
+use Rattle.doc_rules.specs.Commanded.{refused, slot_there, slot_behind, slot_commanded, object_commanded}
+use Rattle.doc_tables.specs.Numbered.{Numbered}
+use Rattle.doc_rules.specs.declared.edit_fault.EditFault.{EditFault}
+use Rattle.doc_rules.specs.declared.edit_fault.EditFault.TheVariants.{Refused, Memory}
+use Rattle.doc_rules.specs.Edits.{Accepted, Answers, Becomes, IsNamed, MeetsEdit, accepted, accepted_by, bound_to, edited, refusal_of_fault, refusal_of_sort, refusal_of_text, set_to, value_fitted, value_given, value_read, value_sorted}
+use Rattle.doc_rules.specs.Refusals.{is_refusal_number}
+
+-- ---- faults
+
+abbrev Named : Fault → Type 0
+Named f = IsTrue (is_refusal_number f.number)
+
+or-named : (a b : Option Fault) → ((f : Fault) → a ≡ Some f → Named f) → ((f : Fault) → b ≡ Some f → Named f) → (f : Fault) → option_or a b ≡ Some f → Named f
+or-named None b p q f e = q f e
+or-named (Some g) b p q f e = p f e
+
+map-named : {A : Type 0} (g : A → Fault) (x : Option A) → ((y : A) → Named (g y)) → (f : Fault) → option_map g x ≡ Some f → Named f
+map-named g None p f e = absurd (cc)
+map-named g (Some y) p f e = let same : g y ≡ f = cc in let P : Fault → Type 0 = Named in subst P same (p y)
+
+if-named : (b : Bool) (g : Fault) → Named g → (f : Fault) → cond b (Some g) None ≡ Some f → Named f
+if-named true g p f e = let same : g ≡ f = cc in let P : Fault → Type 0 = Named in subst P same p
+if-named false g p f e = absurd (cc)
+
+some-named : {A : Type 0} (g : A → Option Fault) → ((x : A) (f : Fault) → g x ≡ Some f → Named f) → (xs : List A) (f : Fault) → first_some g xs ≡ Some f → Named f
+some-named g p [] f e = absurd (cc)
+some-named g p (x ∷ xs) f e = or-named (g x) (first_some g xs) (p x) (some-named g p xs) f e
+
+cause-named : (cause : SortCause) → IsTrue (is_refusal_number (number_of_cause cause))
+cause-named UnitMismatch = refl
+cause-named KindMismatch = refl
+cause-named ExponentRange = refl
+
+sort-named : (s : Slot) (found : SortOutcome) (f : Fault) → sort_fault s found ≡ Some f → Named f
+sort-named s (Ok sort) f e = absurd (cc)
+sort-named s (Err cause) f e =
+    let same : slot_fault (number_of_cause cause) s ≡ f = cc in let P : Fault → Type 0 = Named in subst P same (cause-named cause)
+
+reference-named : (d : Document) (o : Object) (f : Fault) → reference_fault d o ≡ Some f → Named f
+reference-named d o =
+    or-named _ _ (if-named _ (object_fault 12 o) refl)
+    (or-named _ _ (map-named _ _ (λ e. refl)) (map-named _ _ (λ r. refl)))
+
+-- the first fault of a document has a number that has a name
+pub first_fault-named : (d : Document) (f : Fault) → first_fault d ≡ Some f → IsTrue (is_refusal_number f.number)
+unfolding first_fault fault_within_limits
+first_fault-named d =
+    or-named (limit_faults d) _ (if-named _ (record { number = 29; subject = [] }) refl)
+    (or-named (label_faults d) _ (map-named (object_fault 6) _ (λ o. refl))
+    (or-named (link_faults d) _ (map-named (object_fault 23) _ (λ o. refl))
+    (or-named (reference_faults d) _ (some-named (reference_fault d) (reference-named d) d.objects)
+    (or-named (cycle_faults d) _ (map-named (slot_fault 14) _ (λ s. refl))
+    (or-named (sort_faults d) _ (some-named (λ s. sort_fault s (sort d s)) (λ s. sort-named s (sort d s)) (slots d))
+    (map-named (slot_fault 10) _ (λ s. refl)))))))
+
+-- ---- edits
+
+on_one-named : {A B : Type 0} (g : A → Result B Refusal) (x : Result A Refusal) → ((y : A) (r : Refusal) → g y ≡ Err r → IsNamed r)
+    → ((r : Refusal) → x ≡ Err r → IsNamed r) → (r : Refusal) → on_one g x ≡ Err r → IsNamed r
+on_one-named g (Ok y) p q r e = p y r e
+on_one-named g (Err told) p q r e = let same : told ≡ r = cc in q r (ap Err same)
+
+named-is : {A : Type 0} (told : Refusal) → IsNamed told → (x : Result A Refusal) → x ≡ Err told → (r : Refusal) → x ≡ Err r → IsNamed r
+named-is told n x is r e = let same : told ≡ r = cc in let P : Refusal → Type 0 = IsNamed in subst P same n
+
+accepted_by-named : (d : Document) (found : Option Fault) → ((f : Fault) → found ≡ Some f → IsTrue (is_refusal_number f.number)) → (r : Refusal) → accepted_by d found ≡ Err r → IsNamed r
+accepted_by-named d None p r e = absurd (cc)
+accepted_by-named d (Some f) p r e = named-is (refusal_of_fault f) (p f refl) _ refl r e
+
+accepted-named : (d : Document) (r : Refusal) → accepted d ≡ Err r → IsNamed r
+accepted-named d = accepted_by-named d (first_fault d) (first_fault-named d)
+
+bound_to-named : (d : Document) (s : Slot) (found : Result Tree ExprFault) (r : Refusal) → bound_to d s found ≡ Err r → IsNamed r
+bound_to-named d s (Ok e) = accepted-named _
+bound_to-named d s (Err f) = named-is (refusal_of_text f) refl _ refl
+
+value_fitted-named : (given : Outcome) (r : Refusal) → value_fitted given ≡ Err r → IsNamed r
+value_fitted-named (Ok v) r e = absurd (cc)
+value_fitted-named (Err fault) r e = named-is (refused 10) refl _ refl r e
+
+value_sorted-named : (d : Document) (s : Slot) (e : Tree) (found : SortOutcome) (r : Refusal) → value_sorted d s e found ≡ Err r → IsNamed r
+value_sorted-named d s e (Ok sort) = value_fitted-named _
+value_sorted-named d s e (Err cause) = named-is (refusal_of_sort cause) (cause-named cause) _ refl
+
+value_read-named : (d : Document) (s : Slot) (found : Result Tree ExprFault) (r : Refusal) → value_read d s found ≡ Err r → IsNamed r
+value_read-named d s (Ok e) = value_sorted-named d s e _
+value_read-named d s (Err f) = named-is (refusal_of_text f) refl _ refl
+
+set_to-named : (d : Document) (s : Slot) (found : Result Tree ExprFault) (r : Refusal) → set_to d s found ≡ Err r → IsNamed r
+set_to-named d s found = on_one-named _ (value_read d s found) (λ v. accepted-named _) (value_read-named d s found)
+
+slot_there-named : (s : Option Slot) (r : Refusal) → slot_there s ≡ Err r → IsNamed r
+slot_there-named None r e = named-is (refused 3) refl _ refl r e
+slot_there-named (Some s) r e = absurd (cc)
+
+slot_behind-named : (d : Document) (p : Path) (o : Option Object) (r : Refusal) → slot_behind d p o ≡ Err r → IsNamed r
+slot_behind-named d p None = named-is (refused 2) refl _ refl
+slot_behind-named d p (Some o) = slot_there-named _
+
+pub slot_commanded-named : (d : Document) (p : Path) (r : Refusal) → slot_commanded d p ≡ Err r → IsNamed r
+slot_commanded-named d p = slot_behind-named d p (object_commanded d p.owner)
+
+-- an edit is refused with a number that has a name
+pub edited-named : (d : Document) (e : Edit) (r : Refusal) → edited d e ≡ Err r → IsNamed r
+unfolding edited
+edited-named d (SetValue path text) = on_one-named _ (slot_commanded d path) (λ s. set_to-named d s _) (slot_commanded-named d path)
+edited-named d (Bind path text) = on_one-named _ (slot_commanded d path) (λ s. bound_to-named d s _) (slot_commanded-named d path)
+
+-- ---- what is accepted
+
+-- a valid document, in which no reference was written anew
+pub record IsPlain (a : Accepted) : Type 0 where
+  pub valid : IsValid a.document
+  pub references : a.references ≡ 0
+
+on_one-plain : {A : Type 0} (g : A → Result Accepted Refusal) (x : Result A Refusal) → ((y : A) (a : Accepted) → g y ≡ Ok a → IsPlain a)
+    → (a : Accepted) → on_one g x ≡ Ok a → IsPlain a
+on_one-plain g (Ok y) p a e = p y a e
+on_one-plain g (Err told) p a e = absurd (cc)
+
+accepted_by-plain : (d : Document) (found : Option Fault) → first_fault d ≡ found → (a : Accepted) → accepted_by d found ≡ Ok a → IsPlain a
+accepted_by-plain d None none a e =
+    let same : record { document = d; references = 0 } ≡ a = cc in let P : Accepted → Type 0 = IsPlain in
+    subst P same (record { valid = none; references = refl })
+accepted_by-plain d (Some f) none a e = absurd (cc)
+
+accepted-plain : (d : Document) (a : Accepted) → accepted d ≡ Ok a → IsPlain a
+accepted-plain d = accepted_by-plain d (first_fault d) refl
+
+bound_to-plain : (d : Document) (s : Slot) (found : Result Tree ExprFault) (a : Accepted) → bound_to d s found ≡ Ok a → IsPlain a
+bound_to-plain d s (Ok e) a h = accepted-plain _ a h
+bound_to-plain d s (Err f) a h = absurd (cc)
+
+set_to-plain : (d : Document) (s : Slot) (found : Result Tree ExprFault) (a : Accepted) → set_to d s found ≡ Ok a → IsPlain a
+set_to-plain d s found = on_one-plain _ (value_read d s found) (λ v. accepted-plain _)
+
+pub edited-plain : (d : Document) (e : Edit) (a : Accepted) → edited d e ≡ Ok a → IsPlain a
+unfolding edited
+edited-plain d (SetValue path text) = on_one-plain _ (slot_commanded d path) (λ s. set_to-plain d s _)
+edited-plain d (Bind path text) = on_one-plain _ (slot_commanded d path) (λ s. bound_to-plain d s _)
+
+-- ---- how it is told
+
+-- a refusal that is told has a name
+pub becomes-named : (t : Numbered) (found : Result Accepted Refusal) → ((r : Refusal) → found ≡ Err r → IsNamed r)
+    → (result : Result Numbered EditFault) → Becomes t found result → (r : Refusal) → result ≡ Err (Refused r) → IsNamed r
+becomes-named t found named (Ok after) h r e = absurd (cc)
+becomes-named t found named (Err (Memory error)) h r e = absurd (cc)
+becomes-named t (Ok a) named (Err (Refused told)) h r e = absurd h
+becomes-named t (Err first) named (Err (Refused told)) h r e = let same : first ≡ r = cc in named r (ap Err same)
+
+-- the tables and the count of an edit that was made
+pub becomes-meets : (before after : Numbered) (found : Result Accepted Refusal) → ((a : Accepted) → found ≡ Ok a → IsPlain a)
+    → Becomes before found (Ok after) → MeetsEdit before after found (Ok 0)
+becomes-meets before after (Ok a) plain h = (h.0, h.1, sym (plain a refl).references)
+becomes-meets before after (Err r) plain h = absurd h
+
+-- and they are valid
+pub becomes-valid : (before after : Numbered) (found : Result Accepted Refusal) → ((a : Accepted) → found ≡ Ok a → IsPlain a)
+    → Becomes before found (Ok after) → IsValid after.document
+becomes-valid before after (Ok a) plain h = let P : Document → Type 0 = IsValid in subst P (sym h.0) (plain a refl).valid
+becomes-valid before after (Err r) plain h = absurd h
+
+-- with a value it is the edit of that value
+pub becomes-valued : (t : Numbered) (g : Value → Result Accepted Refusal) (found : Result Value Refusal) (v : Value) (result : Result Numbered EditFault)
+    → Answers {A = Value} found (Ok v) → Becomes t (g v) result → Becomes t (on_one g found) result
+becomes-valued t g (Ok w) v result h b = let P : Value → Type 0 = λ x. Becomes t (g x) result in subst P h b
+becomes-valued t g (Err first) v result h b = absurd h

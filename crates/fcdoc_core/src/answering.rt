@@ -1,0 +1,60 @@
+//! Answers the lines of a script.
+
+ghost use Rattle.std.specs.Prelude.{◌≡◌, IfOk, Err, true};
+ghost use Rattle.document_outcomes.specs.Typed.{no_features};
+ghost use Rattle.doc_rules.specs.Edits.{IsNamed};
+ghost use Rattle.fcdoc_core.specs.Machine.{is_refusal, step_line};
+ghost use Rattle.fcdoc_core.specs.Replies.{answer_text};
+
+use crate::command::{Command, CommandFault};
+use crate::session::Session;
+use crate::step_fault::StepFault;
+use doc_rules::Refusal;
+use fc_base::Steps;
+use std::alloc::{AllocError, Global};
+
+/// The line of an answer, with the LF, and whether it is a refusal.
+#[derive(Drop)]
+pub(crate) struct Answer {
+    pub(crate) text: Vec<u8>,
+    pub(crate) is_refusal: bool,
+}
+
+fn refused(alloc: Global, refusal: &Refusal) -> Result<Answer, AllocError>
+    requires { IsNamed refusal.now }
+    ensures text { IfOk result (λ a. a.text.items ≡ answer_text (Err refusal.now)) }
+    ensures refused { IfOk result (λ a. a.is_refusal ≡ true) }
+{
+    let mut text = refusal.write(alloc)?;
+    text.push(b'\n')?;
+    Ok(Answer {
+        text,
+        is_refusal: true,
+    })
+}
+
+/// The answer to a line of a script.
+pub(crate) fn answer_to<L>(
+    alloc: Global,
+    session: &mut Session,
+    line: &str,
+    steps: &mut Steps<L>,
+) -> Result<Answer, AllocError>
+    ensures text { IfOk result (λ a. a.text.items ≡ answer_text (step_line no_features session.old line.now).answer) }
+    ensures refused { IfOk result (λ a. a.is_refusal ≡ is_refusal (step_line no_features session.old line.now).answer) }
+    ensures state { IfOk result (λ _. session.new ≡ (step_line no_features session.old line.now).state) }
+{
+    let command = match Command::read(alloc, line) {
+        Ok(command) => command,
+        Err(CommandFault::NotBuilt) => return refused(alloc, &Refusal::of(99)),
+        Err(CommandFault::Memory(error)) => return Err(error),
+    };
+    match session.step(&command, steps) {
+        Ok(reply) => Ok(Answer {
+            text: reply.write(alloc)?,
+            is_refusal: false,
+        }),
+        Err(StepFault::Refused(refusal)) => refused(alloc, &refusal),
+        Err(StepFault::Memory(error)) => Err(error),
+    }
+}

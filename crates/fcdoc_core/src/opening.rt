@@ -1,0 +1,52 @@
+ghost use Rattle.std.specs.Prelude.{◌≡◌, IfOk, IsTrue};
+ghost use Rattle.doc_rules.specs.Edits.{fault_told};
+ghost use Rattle.doc_rules.specs.Refusals.{is_refusal_number};
+ghost use Rattle.fcdoc_core.specs.Opening.{faulty};
+ghost use Rattle.fcdoc_core.specs.Replies.{unopened_text};
+ghost use Rattle.fcdoc_core.specs.OpenFaults.{HasLine, open_fault_text};
+
+use doc_rules::DocFault;
+use std::alloc::{AllocError, Global};
+use thiserror::Error;
+
+/// Why a document was not opened.
+#[derive(Debug, Drop, Error)]
+pub enum OpenFault {
+    /// The bytes are not the text of a document of the first form.
+    #[error("not a document of the first form")]
+    NotBuilt,
+    /// The document has this fault.
+    #[error("a fault of the document")]
+    Doc(DocFault),
+    #[error("out of memory")]
+    Memory(AllocError),
+}
+
+/// The line for a document with a fault.
+fn faulty_line(alloc: Global, fault: &DocFault) -> Result<Vec<u8>, AllocError>
+    requires { IsTrue (is_refusal_number fault.now.number) }
+    ensures { IfOk result (λ text. text.items ≡ unopened_text (faulty (fault_told fault.now))) }
+{
+    let refusal = fault.refusal(alloc)?;
+    let refused = refusal.write(alloc)?;
+    let mut text = Vec::from_slice(alloc, b"document ")?;
+    text.extend_from_slice(refused.as_slice())?;
+    text.push(b'\n')?;
+    Ok(text)
+}
+
+impl OpenFault {
+    /// The line of a run whose document is refused, with the LF: `document refused NotBuilt` or
+    /// `document refused 6 LabelTaken V`. There is none for want of memory, and none for a fault whose
+    /// number is not that of a refusal.
+    pub fn write(&self, alloc: Global) -> Result<Vec<u8>, AllocError>
+        requires { HasLine self.now }
+        ensures { IfOk result (λ text. text.items ≡ open_fault_text self.now) }
+    {
+        match self {
+            OpenFault::NotBuilt => Vec::from_slice(alloc, b"document refused NotBuilt\n"),
+            OpenFault::Doc(fault) => faulty_line(alloc, fault),
+            OpenFault::Memory(_) => unreachable!(),
+        }
+    }
+}
