@@ -24,3 +24,5 @@ pub mod ArgumentNodes
 pub mod SpelledLemmas
 pub mod SpelledTrees
 pub mod RenamingLemmas
+pub mod ExpressionLemmas
+pub mod ClosedLemmas

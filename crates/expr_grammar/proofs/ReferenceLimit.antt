@@ -72,7 +72,7 @@ length-kinds : (behind : Bool) (xs : List Lexeme) → length (kinds behind xs) �
 length-kinds behind [] = refl
 length-kinds behind (x ∷ xs) = omega (arith, length-kinds (is_point x) xs)
 
-length-tokens_of : (xs : List Placed) → length (tokens_of xs) ≡ length xs
+pub length-tokens_of : (xs : List Placed) → length (tokens_of xs) ≡ length xs
 length-tokens_of xs = length-kinds false (map (λ (x : Placed). x.lexeme) xs) ∙ length-map xs (λ (x : Placed). x.lexeme)
 
 -- lexemes of which none is too many
@@ -86,7 +86,7 @@ within_limit count brackets (x ∷ xs) h =
     (λ e none. omega (arith, leb-false 512 count (or_parts (nat_le most_tokens count) (nat_lt most_brackets now) e).0, within_limit (count + 1) now xs none))
     h
 
-parsed_references : (w : List ℕ) (t : Tree) → Parses w t → reference_count t ≤ 512
+pub parsed_references : (w : List ℕ) (t : Tree) → Parses w t → reference_count t ≤ 512
 parsed_references w t h = omega (arith, references_within h.tree, length-tokens_of h.lexemes, within_limit 0 0 h.lexemes h.spelled.within)
 
 -- the tree of an answer has at most so many references

@@ -14,9 +14,9 @@ ghost use Rattle.expr_tokens.specs.declared.token.Placed.{Placed};
 
 use crate::expr::{Argument, Expr, Node, UnitPower};
 use crate::operators::{BinaryOp, CompareOp};
-use expr_tokens::{AggregateOp, FunctionOp};
 use crate::tightness::{Tightness, fits, fits_as_base, level_of_operation, level_of_right};
 use arrayvec::ArrayString;
+use expr_tokens::{AggregateOp, FunctionOp};
 use fc_base::{Address, Area, TextValue};
 use object_paths::Path;
 use quantities::Amount;

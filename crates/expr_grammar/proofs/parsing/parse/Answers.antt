@@ -5,6 +5,7 @@ use Rattle.expr_grammar.specs.declared.fault.ParseFault.TheVariants as fault
 use Rattle.expr_grammar.specs.Parse.{MeetsParse}
 use Rattle.expr_grammar.specs.Spelled.{IsSpelled}
 use Rattle.expr_grammar.specs.Tree.{Tree}
+use Rattle.expr_grammar.proofs.ExpressionLemmas.{tells}
 use Rattle.expr_grammar.proofs.ReferenceLimit.{answer_references}
 use Rattle.expr_grammar.proofs.SpelledTrees.{parsed_is_spelled}
 use Rattle.expr_grammar.proofs.parsing.parse.Goals as goal
@@ -14,6 +15,16 @@ answer-spelled : (text : List ℕ) (r : Result Tree ParseFault) → MeetsParse t
 answer-spelled text (Ok t) h = parsed_is_spelled text t h
 answer-spelled text (Err (fault.Expr f)) h = tt
 answer-spelled text (Err (fault.Memory e)) h = tt
+
+pub returns-in_err-lexemes-clause-found : goal.returns-in_err-lexemes-clause-found
+returns-in_err-lexemes-clause-found c =
+    let meets : MeetsParse c.args.text.now c.from_residual.result = search rules in
+    tells c.args.text.now c.from_residual.result meets
+
+pub returns-clause-found : goal.returns-clause-found
+returns-clause-found c =
+    let meets : MeetsParse c.args.text.now c.tree_of.result = search rules in
+    tells c.args.text.now c.tree_of.result meets
 
 pub returns-clause-spelled : goal.returns-clause-spelled
 returns-clause-spelled c =

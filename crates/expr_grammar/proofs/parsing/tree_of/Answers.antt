@@ -13,8 +13,7 @@ use Rattle.expr_grammar.proofs.parsing.tree_of.Goals as goal
 
 pub returns-in-Ok : goal.returns-in-Ok
 returns-in-Ok c =
-    let same : c.deref.result.now ≡ tokens_of c.args.lexemes.now = grind (arith, common_steps) in
-    subst (λ (ts : List Token). HasTree expression ts c.in-Ok.tree) same (of_all-sound c.deref.result.now c.in-Ok.tree c.in-Ok.ensures)
+    subst (λ (ts : List Token). HasTree expression ts c.in-Ok.tree) c.requires (of_all-sound c.args.tokens.now c.in-Ok.tree c.in-Ok.ensures)
 
 -- no tree of the tokens, at the place found by neighbours
 no-tree : (xs : List Placed) (ts : List Token) (end place : ℕ) → ts ≡ tokens_of xs → of_all (parsed expression ts) ≡ None
@@ -26,10 +25,6 @@ no-tree xs ts end place same none at = record {
 
 pub returns-in-Err-Syntax : goal.returns-in-Err-Syntax
 returns-in-Err-Syntax c =
-    let same : c.deref.result.now ≡ tokens_of c.args.lexemes.now = grind (arith, common_steps) in
-    let none : of_all (parsed expression c.deref.result.now) ≡ None = grind (arith, common_steps) in
-    let other : c.deref-in-Err-Syntax.result.now ≡ c.deref.result.now = grind (arith, common_steps) in
-    let at : c.misplaced.result ≡ misplaced (map (λ x. x.place) c.args.lexemes.now) c.deref.result.now c.args.end =
-    c.misplaced.ensures ∙ ap (λ (z : List Token). misplaced (map (λ x. x.place) c.args.lexemes.now) z c.args.end) other in
+    let none : of_all (parsed expression c.args.tokens.now) ≡ None = grind (arith, common_steps) in
     subst (λ (f : ParseFault). MeetsGrammar c.args.lexemes.now c.args.end (Err f)) (sym c.fault.ensures)
-    (no-tree c.args.lexemes.now c.deref.result.now c.args.end c.misplaced.result same none at)
+    (no-tree c.args.lexemes.now c.args.tokens.now c.args.end c.first_misplaced.result c.requires none c.first_misplaced.ensures)
