@@ -1,10 +1,10 @@
 pub mod CursorLemmas
 pub mod AmountLemmas
 pub mod ReadingLemmas
-pub mod LookupLemmas
 pub mod FieldLaws
 pub mod ObjectLaws
 pub mod DocumentLaws
 pub mod DistinctLemmas
 pub mod StandingLemmas
 pub mod Utf8Laws
+pub mod FillingLemmas

@@ -1,14 +1,13 @@
 -- Properties and objects that are found stand in the text, and those that stand there are found.
-use Rattle.std.proofs.Common.{◌≡◌, ℕ, ℤ, zero, suc, ◌+◌, ◌-◌, ◌<◌, ◌≤◌, ◌^◌, Bool, true, false, cond, ltb, List, [], ◌∷◌, ◌++◌, length, map, codes, Option, None, Some, refl, sym, ap, ◌∙◌, subst, append_assoc, add-one, arith, IsTrue}
+use Rattle.std.proofs.Common.{◌≡◌, ℕ, zero, suc, ◌+◌, ◌-◌, ◌<◌, ◌≤◌, ◌^◌, Bool, true, false, cond, ltb, List, [], ◌∷◌, ◌++◌, length, map, codes, None, Some, refl, sym, ap, ◌∙◌, subst, append_assoc, arith}
 use Rattle.std.specs.Fmt.{decimal}
 use Rattle.std.specs.List.{flat_map, AllByRecursion}
 use Rattle.std.proofs.lemmas.Bool.{ltb-false, le-ltb}
 use Rattle.std.proofs.lemmas.List.Concat.{flat_map-cons}
 use Rattle.fc_base.specs.Texts.{is_name}
-use Rattle.quantities.specs.Amounts.{IsAmount}
 use Rattle.quantities.specs.Texts.{nine_text}
 use Rattle.quantities.proofs.TextLemmas.{nine_text-no_quote}
-use Rattle.fcdoc_file.specs.Cursor.{◌>>=◌, after, each, numbers}
+use Rattle.fcdoc_file.specs.Cursor.{after, each, numbers}
 use Rattle.fcdoc_file.specs.FirstForm.{FirstProperty, FirstObject, property_text, object_text, IsFirstProperty, IsFirstObject}
 use Rattle.fcdoc_file.specs.Reading.{quoted_at, name_at, count_at, known_at, amount_of, property_at, fixed_at, start_at, object_at}
 use Rattle.fcdoc_file.proofs.AmountLemmas.{amount_of-nine_text, amount_of_some}

@@ -1,5 +1,5 @@
 -- Whether objects stand together, as the tests tell it part by part.
-use Rattle.std.proofs.Common.{◌≡◌, ℕ, Bool, true, false, ◌&&◌, List, [], ◌∷◌, map, refl, sym, ap, ◌∙◌}
+use Rattle.std.proofs.Common.{◌≡◌, Bool, true, false, ◌&&◌, List, [], ◌∷◌, map, refl, sym, ap, ◌∙◌}
 use Rattle.std.specs.List.{list_all}
 use Rattle.std.proofs.lemmas.List.Folds.{list_all-map}
 use Rattle.property_types.specs.Reserved.{are_distinct}
@@ -13,7 +13,7 @@ object_names : (os : List VarSet) → map (λ o. o.name) (map object_of os) ≡ 
 object_names [] = refl
 object_names (o ∷ os) = ap (λ names. o.name ∷ names) (object_names os)
 
-property_names : (ps : List FloatProperty) → map (λ p. p.name) (map property_of ps) ≡ map (λ p. p.name) ps
+pub property_names : (ps : List FloatProperty) → map (λ p. p.name) (map property_of ps) ≡ map (λ p. p.name) ps
 property_names [] = refl
 property_names (p ∷ ps) = ap (λ names. p.name ∷ names) (property_names ps)
 

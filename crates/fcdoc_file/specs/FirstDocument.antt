@@ -1,5 +1,5 @@
 -- The document that objects of the first form make, and its text.
-use Rattle.std.specs.Prelude.{◌≡◌, ◌⊎◌, ℕ, ℤ, false, List, [], ◌∷◌, map, codes, Option, Some, None, Result, Ok, Err}
+use Rattle.std.specs.Prelude.{◌≡◌, ◌⊎◌, ℕ, ℤ, false, List, [], ◌∷◌, map, codes, None}
 use Rattle.unit_signatures.specs.Units.{pure}
 use Rattle.property_types.specs.declared.prop_type.PropType.TheVariants.{Float}
 use Rattle.property_types.specs.declared.value.Value.{Value}

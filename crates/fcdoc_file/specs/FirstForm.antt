@@ -1,5 +1,5 @@
 -- Documents of the first form: VarSets of Float properties with own values. What their text is.
-use Rattle.std.specs.Prelude.{◌≡◌, ◌⊎◌, ℕ, ◌+◌, ℤ, Bool, true, ◌&&◌, nat_le, List, [], ◌∷◌, ◌++◌, length, map, sum_by, codes, IsTrue}
+use Rattle.std.specs.Prelude.{ℕ, ◌+◌, ℤ, Bool, ◌&&◌, nat_le, List, [], ◌∷◌, ◌++◌, length, map, sum_by, codes, IsTrue}
 use Rattle.std.specs.List.{flat_map, list_all, AllByRecursion}
 use Rattle.std.specs.Fmt.{decimal}
 use Rattle.fc_base.specs.Texts.{is_name}

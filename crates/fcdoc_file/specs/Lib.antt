@@ -1,7 +1,7 @@
 pub mod Answers
 pub mod Cursor
+pub mod Filled
 pub mod FirstDocument
 pub mod FirstForm
-pub mod Lookups
 pub mod Reading
 pub mod Rows

@@ -3,8 +3,8 @@
 
 mod cursor;
 mod fault;
+mod filling;
 mod first_document;
-mod lookup;
 mod reading;
 mod standing;
 #[cfg(test)]
@@ -12,5 +12,4 @@ mod tests;
 mod var_set;
 
 pub use fault::LoadError;
-pub use first_document::{FirstDocument, document_is_read_exactly, load};
-pub use lookup::LookupFault;
+pub use first_document::{document_is_read_exactly, load};

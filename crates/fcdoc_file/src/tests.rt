@@ -1,7 +1,9 @@
 use super::*;
 use crate::load;
-use fc_base::{Label, Name};
+use doc_tables::Tables;
+use fc_base::Name;
 use object_paths::{Owner, Path, SlotName};
+use property_types::Value;
 use std::test::Fail;
 
 const ONE_VARSET: &str = "<?xml version='1.0' encoding='utf-8'?>
@@ -27,41 +29,90 @@ const ONE_VARSET: &str = "<?xml version='1.0' encoding='utf-8'?>
 </Document>
 ";
 
-/// The lines of the property of that document.
+const TWO_VARSETS: &str = "<?xml version='1.0' encoding='utf-8'?>
+<Document SchemaVersion=\"4\">
+<Objects Count=\"2\">
+<Object type=\"App::VarSet\" name=\"V\" id=\"1\"/>
+<Object type=\"App::VarSet\" name=\"W\" id=\"2\"/>
+</Objects>
+<ObjectData Count=\"2\">
+<Object name=\"V\">
+<Properties Count=\"4\">
+<Property name=\"Label\" type=\"App::PropertyString\">
+<String value=\"V\"/>
+</Property>
+<Property name=\"ExpressionEngine\" type=\"App::PropertyExpressionEngine\">
+<ExpressionEngine count=\"0\"/>
+</Property>
+<Property name=\"a\" type=\"App::PropertyFloat\" group=\"Base\" doc=\"\" ro=\"0\" hide=\"0\">
+<Float value=\"2.000000000\"/>
+</Property>
+<Property name=\"b\" type=\"App::PropertyFloat\" group=\"Base\" doc=\"\" ro=\"0\" hide=\"0\">
+<Float value=\"-0.500000000\"/>
+</Property>
+</Properties>
+</Object>
+<Object name=\"W\">
+<Properties Count=\"3\">
+<Property name=\"Label\" type=\"App::PropertyString\">
+<String value=\"W\"/>
+</Property>
+<Property name=\"ExpressionEngine\" type=\"App::PropertyExpressionEngine\">
+<ExpressionEngine count=\"0\"/>
+</Property>
+<Property name=\"a\" type=\"App::PropertyFloat\" group=\"Base\" doc=\"\" ro=\"0\" hide=\"0\">
+<Float value=\"0.000000001\"/>
+</Property>
+</Properties>
+</Object>
+</ObjectData>
+</Document>
+";
+
+/// The lines of the property of the document with one VarSet.
 const PROPERTY: &str =
     "<Property name=\"a\" type=\"App::PropertyFloat\" group=\"Base\" doc=\"\" ro=\"0\" hide=\"0\">
 <Float value=\"2.000000000\"/>
 </Property>
 ";
 
-fn by_name(rt: &HostRuntime, object: &str, property: &str) -> Result<Path, Fail> {
-    Ok(Path {
-        owner: Owner::ByName(Name::read(rt.alloc(), object)?),
+/// The number, in billionths, that a slot has as its own.
+fn number_of(
+    rt: &HostRuntime,
+    tables: &Tables,
+    object: &str,
+    property: &str,
+) -> Result<Option<i128>, Fail> {
+    let Some(owner) = tables.object_named(object) else {
+        return Ok(None);
+    };
+    let path = Path {
+        owner: Owner::Here,
         slot: SlotName::Plain(Name::read(rt.alloc(), property)?),
-    })
-}
-
-fn by_label(rt: &HostRuntime, label: &str, property: &str) -> Result<Path, Fail> {
-    Ok(Path {
-        owner: Owner::ByLabel(Label::read(rt.alloc(), label)?),
-        slot: SlotName::Plain(Name::read(rt.alloc(), property)?),
-    })
+    };
+    let Some(slot) = tables.resolve(owner, &path) else {
+        return Ok(None);
+    };
+    match tables.own_value(slot) {
+        Some(Value::Number(quantity)) => Ok(Some(quantity.amount.raw())),
+        _ => Ok(None),
+    }
 }
 
 #[test]
-fn loads_one_varset(rt: HostRuntime) -> Result<(), Fail> {
-    let document = load(rt.alloc(), ONE_VARSET.as_bytes())?;
-    let value = document.value_of(&by_name(&rt, "V", "a")?)?;
-    assert_eq!(rt; value.raw(), 2_000_000_000);
-    let value = document.value_of(&by_label(&rt, "V", "a")?)?;
-    assert_eq!(rt; value.raw(), 2_000_000_000);
-    for (object, property, fault) in [
-        ("W", "a", LookupFault::NoObject),
-        ("V", "b", LookupFault::NoProperty),
-        ("V", "Label", LookupFault::NoProperty),
+fn loads_two_varsets(rt: HostRuntime) -> Result<(), Fail> {
+    let tables = load(rt.alloc(), TWO_VARSETS.as_bytes())?;
+    assert_eq!(rt; tables.object_count(), 2);
+    assert_eq!(rt; tables.slot_count(), 3);
+    for (object, property, number) in [
+        ("V", "a", Some(2_000_000_000)),
+        ("V", "b", Some(-500_000_000)),
+        ("W", "a", Some(1)),
+        ("W", "b", None),
+        ("X", "a", None),
     ] {
-        let found = document.value_of(&by_name(&rt, object, property)?);
-        assert!(rt; found == Err(fault), "{object}.{property}");
+        let found = number_of(&rt, &tables, object, property)?;
+        assert!(rt; found == number, "{object}.{property}");
     }
     Ok(())
 }
@@ -72,9 +123,8 @@ fn loads_documents_without_objects(rt: HostRuntime) -> Result<(), Fail> {
         "<Document SchemaVersion=\"4\"/>",
         "<?xml version='1.0' encoding='utf-8'?>\n<Document SchemaVersion=\"4\">\n<Objects Count=\"0\"/>\n<ObjectData Count=\"0\"/>\n</Document>\n",
     ] {
-        let document = load(rt.alloc(), text.as_bytes())?;
-        let found = document.value_of(&by_name(&rt, "V", "a")?);
-        assert!(rt; found == Err(LookupFault::NoObject), "{text}");
+        let tables = load(rt.alloc(), text.as_bytes())?;
+        assert_eq!(rt; tables.object_count(), 0, "{text}");
     }
     Ok(())
 }

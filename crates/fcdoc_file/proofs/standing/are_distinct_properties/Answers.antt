@@ -1,4 +1,4 @@
-use Rattle.std.proofs.Common.{◌≡◌, ◌+◌, map, drop, refl, sym, ap, ◌∙◌}
+use Rattle.std.proofs.Common.{◌+◌, map, drop, refl, sym, ap, ◌∙◌}
 use Rattle.property_types.specs.Reserved.{are_distinct}
 use Rattle.fcdoc_file.proofs.DistinctLemmas.{distinct_beside, beside_nothing, adds, repeats}
 use Rattle.fcdoc_file.proofs.ReadingLemmas.{keys_left}
