@@ -162,12 +162,11 @@ edited-plain d (Bind path text) = on_one-plain _ (slot_commanded d path) (λ s. 
 -- ---- how it is told
 
 -- a refusal that is told has a name
-pub becomes-named : (t : Numbered) (found : Result Accepted Refusal) → ((r : Refusal) → found ≡ Err r → IsNamed r)
-    → (result : Result Numbered EditFault) → Becomes t found result → (r : Refusal) → result ≡ Err (Refused r) → IsNamed r
-becomes-named t found named (Ok after) h r e = absurd (cc)
-becomes-named t found named (Err (Memory error)) h r e = absurd (cc)
-becomes-named t (Ok a) named (Err (Refused told)) h r e = absurd h
-becomes-named t (Err first) named (Err (Refused told)) h r e = let same : first ≡ r = cc in named r (ap Err same)
+pub becomes-named : {A : Type 0} (t : Numbered) (found : Result Accepted Refusal) → ((r : Refusal) → found ≡ Err r → IsNamed r)
+    → (fault : EditFault) → Becomes t found (Err fault) → (r : Refusal) → Err fault ≡ (let told : Result A EditFault = Err (Refused r) in told) → IsNamed r
+becomes-named t found named (Memory error) h r e = absurd (cc)
+becomes-named t (Ok a) named (Refused told) h r e = absurd h
+becomes-named t (Err first) named (Refused told) h r e = let same : first ≡ r = cc in named r (ap Err same)
 
 -- the tables and the count of an edit that was made
 pub becomes-meets : (before after : Numbered) (found : Result Accepted Refusal) → ((a : Accepted) → found ≡ Ok a → IsPlain a)

@@ -80,12 +80,7 @@ fn accepted(
 }
 
 /// The tables with a slot bound to the expression of a text.
-fn bound(
-    alloc: Global,
-    tables: &Tables,
-    slot: SlotId,
-    text: &str,
-) -> Result<Tables, EditFault>
+fn bound(alloc: Global, tables: &Tables, slot: SlotId, text: &str) -> Result<Tables, EditFault>
     requires { IsSome (slot_at tables.now slot.0) }
     ensures { (s : Slot) → slot_at tables.now slot.0 ≡ Some s
         → Becomes tables.now (bound_to tables.now.document s (expression_of text.now)) result }
@@ -121,11 +116,7 @@ fn closed_outcome(alloc: Global, tree: &Expr) -> Result<Outcome, AllocError>
 }
 
 /// An outcome as one that a slot of the type is given.
-fn value_fitted(
-    alloc: Global,
-    prop: Option<&PropType>,
-    given: Outcome,
-) -> Result<Value, EditFault>
+fn value_fitted(alloc: Global, prop: Option<&PropType>, given: Outcome) -> Result<Value, EditFault>
     requires { IfSome prop (λ p. p.now ≢ Placement) }
     ensures { Answers (value_fitted (fitted (option_map (λ p. p.now) prop.entry) given)) result }
 {
@@ -163,12 +154,7 @@ fn value_given(
 }
 
 /// The value that a text gives a slot.
-fn value_read(
-    alloc: Global,
-    tables: &Tables,
-    slot: SlotId,
-    text: &str,
-) -> Result<Value, EditFault>
+fn value_read(alloc: Global, tables: &Tables, slot: SlotId, text: &str) -> Result<Value, EditFault>
     requires { IsSome (slot_at tables.now slot.0) }
     ensures { (s : Slot) → slot_at tables.now slot.0 ≡ Some s
         → Answers (value_read tables.now.document s (closed_expression_of text.now)) result }
@@ -178,12 +164,7 @@ fn value_read(
 }
 
 /// The tables with a slot set to the value of a text.
-fn set(
-    alloc: Global,
-    tables: &Tables,
-    slot: SlotId,
-    text: &str,
-) -> Result<Tables, EditFault>
+fn set(alloc: Global, tables: &Tables, slot: SlotId, text: &str) -> Result<Tables, EditFault>
     requires { IsSome (slot_at tables.now slot.0) }
     ensures { (s : Slot) → slot_at tables.now slot.0 ≡ Some s
         → Becomes tables.now (set_to tables.now.document s (closed_expression_of text.now)) result }

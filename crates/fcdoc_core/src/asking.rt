@@ -46,11 +46,7 @@ pub(crate) fn value_of(
 }
 
 /// The expression to which the slot is bound that a path names.
-pub(crate) fn expression_of(
-    alloc: Global,
-    tables: &Tables,
-    path: &Path,
-) -> Result<Reply, StepFault>
+pub(crate) fn expression_of(alloc: Global, tables: &Tables, path: &Path) -> Result<Reply, StepFault>
     ensures exact { Answers (expression_told tables.now.document path.now) result }
     ensures named { (r : Refusal) → result ≡ Err (Refused r) → IsNamed r }
 {

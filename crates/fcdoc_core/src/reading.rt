@@ -1,8 +1,8 @@
 //! Reads the lines of a script as commands.
 
-ghost use Rattle.std.specs.Prelude.{◌≡◌};
+ghost use Rattle.std.specs.Prelude.{◌≡◌, []};
 ghost use Rattle.std.specs.List.{list_any};
-ghost use Rattle.fcdoc_core.specs.Commands.{Reads, command_of, command_of_parts, is_by_name, is_control, is_named_property, is_plain, path_alone, path_and_text, property_of};
+ghost use Rattle.fcdoc_core.specs.Commands.{Reads, command_of, command_of_parts, is_by_name, is_control, is_plain, parts_of, path_alone, path_and_text, property_of};
 
 use crate::command::{Command, CommandFault};
 use crate::cutting::{behind_word, first_word, unspaced};
@@ -51,11 +51,7 @@ fn path_alone(alloc: Global, target: &str, tail: &str) -> Result<Path, CommandFa
 }
 
 /// A path, with a text behind it that is not empty.
-fn path_and_text(
-    alloc: Global,
-    target: &str,
-    tail: &str,
-) -> Result<(Path, EditText), CommandFault>
+fn path_and_text(alloc: Global, target: &str, tail: &str) -> Result<(Path, EditText), CommandFault>
     ensures { Reads (path_and_text (record { verb = []; target = target.now; tail = tail.now })) result }
 {
     if tail.is_empty() {
@@ -91,6 +87,14 @@ fn command_of_parts(
     }
 }
 
+/// The command of a line without outer spaces.
+fn command_of_line(alloc: Global, line: &str) -> Result<Command, CommandFault>
+    ensures { Reads (command_of_parts (parts_of line.now)) result }
+{
+    let rest = behind_word(line);
+    command_of_parts(alloc, first_word(line), first_word(rest), behind_word(rest))
+}
+
 /// Whether a control character other than tab stands in the line.
 fn has_control(line: &str) -> bool
     ensures { result ≡ list_any is_control line.now }
@@ -110,8 +114,6 @@ impl Command {
         if has_control(line) {
             return Err(CommandFault::NotBuilt);
         }
-        let line = unspaced(line);
-        let rest = behind_word(line);
-        command_of_parts(alloc, first_word(line), first_word(rest), behind_word(rest))
+        command_of_line(alloc, unspaced(line))
     }
 }

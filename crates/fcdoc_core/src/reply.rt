@@ -1,4 +1,4 @@
-ghost use Rattle.std.specs.Prelude.{◌≡◌, IfOk};
+ghost use Rattle.std.specs.Prelude.{◌≡◌, IfOk, string_bytes};
 ghost use Rattle.fcdoc_core.specs.Replies.{reply_text};
 
 use crate::writing::{expression_line, outcome_line, recomputed_line};

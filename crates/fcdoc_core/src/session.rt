@@ -80,11 +80,7 @@ impl Session {
 
     /// Does a command, and answers its reply. A command that is refused, or that finds no memory,
     /// changes nothing. A recompute counts a step for each node that it evaluates.
-    pub fn step<L>(
-        &mut self,
-        command: &Command,
-        steps: &mut Steps<L>,
-    ) -> Result<Reply, StepFault>
+    pub fn step<L>(&mut self, command: &Command, steps: &mut Steps<L>) -> Result<Reply, StepFault>
         ensures exact { MeetsStep self.old self.new (step no_features self.old command.now) result }
         ensures named { (r : Refusal) → result ≡ Err (Refused r) → IsNamed r }
         ensures at_least { OnOk result (min (steps.old + least_steps self.old command.now) (2 ^ 64 - 1) ≤ steps.new) }
@@ -93,7 +89,13 @@ impl Session {
         let _count = steps.count();
         match command {
             Command::Edit(edit) => self.edit(edit),
-            Command::Get(path) => value_of(self.alloc, &self.tables, &self.values, self.clean, path),
+            Command::Get(path) => value_of(
+                self.alloc,
+                &self.tables,
+                &self.values,
+                self.clean,
+                path,
+            ),
             Command::Expression(path) => expression_of(self.alloc, &self.tables, path),
             Command::Recompute => self.recompute(steps),
         }

@@ -1,6 +1,6 @@
 //! Writes the lines of replies.
 
-ghost use Rattle.std.specs.Prelude.{◌≡◌, ◌++◌, ◌∷◌, IfOk, OnOk, decimal};
+ghost use Rattle.std.specs.Prelude.{◌≡◌, ◌++◌, ◌∷◌, [], IfOk, OnOk, decimal};
 ghost use Rattle.std.specs.List.{flat_map};
 ghost use Rattle.quantities.specs.Texts.{decimal_text};
 ghost use Rattle.unit_signatures.specs.UnitTexts.{unit_text};

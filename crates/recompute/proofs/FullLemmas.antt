@@ -108,7 +108,7 @@ module _ (d : Document) (holds : HoldsVarSets d) where
       let kind : o.kind ≡ VarSet = ap (λ (q : Object). q.kind) set.object in
       ap (λ (k : ObjectKind). option_and_then (λ (e : Object). plan_of_kind e.kind) (end_from (end_along d (length d.objects)) o k)) kind ∙ ap plan_of_kind kind
 
-  inputs-none : (m : Meanings) → input_lists m d ≡ []
+  pub inputs-none : (m : Meanings) → input_lists m d ≡ []
   unfolding input_lists
   inputs-none m = filter_map-none (entry_of m d) d.objects (λ o here. entry-none o (plan_behind d o) (plan-none o here))
     where

@@ -1,4 +1,3 @@
-use Rattle.std.proofs.Common.{Err}
 use Rattle.std.proofs.lemmas.Result.{err_from_is_err_and}
 use Rattle.doc_rules.specs.Edits.{edited}
 use Rattle.doc_rules.proofs.EditLemmas.{becomes-meets, becomes-named, becomes-valid, edited-named, edited-plain}
@@ -8,7 +7,7 @@ pub returns-in_err-edited-clause-named : goal.returns-in_err-edited-clause-named
 returns-in_err-edited-clause-named c =
     let p = err_from_is_err_and c.from_residual.result c.from_residual.ensures.1 in
     rw (p.1, p.2) (becomes-named c.args.tables.now (edited c.args.tables.now.document c.args.edit.now) (edited-named c.args.tables.now.document c.args.edit.now)
-    (Err c.in_err-edited.field-0.0) c.in_err-edited.ensures)
+    c.in_err-edited.field-0.0 c.in_err-edited.ensures)
 
 pub returns-clause-exact : goal.returns-clause-exact
 returns-clause-exact c =
