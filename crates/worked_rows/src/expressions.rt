@@ -10,32 +10,214 @@ use std::alloc::{AllocError, Global};
 use std::process::Abort;
 use std::test::Fail;
 
-/// Holds that each text is read, and printed in its form; and that the form is read as the same. A
-/// row is a text and its printed form.
-fn assert_printed(rt: &impl Abort, alloc: Global, rows: &str) -> Result<(), Fail> {
-    for row in rows.lines() {
-        let (text, want) = row.split_once(" → ").ok_or("no row")?;
-        let tree = parse(alloc, text)?;
-        let printed = print(alloc, &tree)?;
-        assert_eq!(rt; printed.as_str(), want, "{text}");
-        let again = parse(alloc, printed.as_str())?;
-        assert_eq!(rt;
-            print(alloc, &again)?.as_str(),
-            want,
-            "{text} printed and read"
-        );
-        let copied = tree.copy(alloc)?;
-        assert_eq!(rt; print(alloc, &copied)?.as_str(), want, "a copy of {text}");
-    }
-    Ok(())
-}
+/// Texts and their printed forms.
+static PRINTED: [(&str, &str); 66] = [
+    // Leaves.
+    ("007", "7"),
+    ("0.50", "0.5"),
+    ("1e3", "1000"),
+    ("0.0000000005", "0.000000001"),
+    ("0.00000000049", "0"),
+    ("2.5mm", "2.5 mm"),
+    ("1 mm^02", "1 mm^2"),
+    ("1 mm^1", "1 mm"),
+    ("1\tmm ^ - 2", "1 mm^-2"),
+    ("mm", "mm"),
+    ("true", "true"),
+    ("<<a  \tb>>", "<<a  \tb>>"),
+    ("Width", "Width"),
+    (".Width", "Width"),
+    (".m", ".m"),
+    ("Box . m", "Box.m"),
+    ("A1", "A1"),
+    ("$A$1", "$A$1"),
+    ("S.A$1", "S.A$1"),
+    ("Placement.Base.x", "Placement.Base.x"),
+    (".m.Base.y", "m.Base.y"),
+    ("Box.Placement.Rotation.Turn", "Box.Placement.Rotation.Turn"),
+    ("<<My box>> . Width", "<<My box>>.Width"),
+    ("länge+Größe.c", "länge + Größe.c"),
+    // Brackets stand where they are needed, and nowhere else.
+    ("1-2-3", "1 - 2 - 3"),
+    ("1-(2-3)", "1 - (2 - 3)"),
+    ("((1-2))-3", "1 - 2 - 3"),
+    ("6/2*3", "6 / 2 * 3"),
+    ("6/(2*3)", "6 / (2 * 3)"),
+    ("2*(3+4)%5", "2 * (3 + 4) % 5"),
+    ("2*-3", "2 * -3"),
+    ("-2*3", "-2 * 3"),
+    ("-(2*3)", "-(2 * 3)"),
+    ("--1", "--1"),
+    ("-2^2", "-2^2"),
+    ("(-2)^2", "(-2)^2"),
+    ("3^4^2", "3^4^2"),
+    ("(1 mm)^2", "(1 mm)^2"),
+    ("1 mm^2^3", "(1 mm^2)^3"),
+    ("mm^2", "mm^2"),
+    ("1<2", "1 < 2"),
+    ("(1<2)==true", "(1 < 2) == true"),
+    ("a?b:c?d:e", "a ? b : c ? d : e"),
+    ("(a?b:c)?d:e", "(a ? b : c) ? d : e"),
+    ("a?(b?c:d):e", "a ? b ? c : d : e"),
+    ("1+(a?b:c)", "1 + (a ? b : c)"),
+    ("mod ( 7,3 )", "mod(7; 3)"),
+    ("floor((1.5 mm))", "floor(1.5 mm)"),
+    ("sum( $A1:B$2 ,3;A1)", "sum($A1:B$2; 3; A1)"),
+    // Rows from outside.
+    ("q/.true", "q / .true"),
+    ("-(<<Größe>>.true)", "-<<Größe>>.true"),
+    ("1e9-360 + 360 - 3", "1000000000 - 360 + 360 - 3"),
+    ("mod((-1e3)^1;2.5)", "mod((-1000)^1; 2.5)"),
+    ("trunc(-_x.c)-(-x1)", "trunc(-_x.c) - -x1"),
+    ("(m.true-1000000)^12", "(m.true - 1000000)^12"),
+    ("(mod(m.b, q)) / 2-2", "mod(m.b; q) / 2 - 2"),
+    ("-_x.Width-24+_x.Width", "-_x.Width - 24 + _x.Width"),
+    ("(7>sum(.s, .s) ? .s : .s)", "7 > sum(.s; .s) ? .s : .s"),
+    ("b*(.true - (x1 % Box.x1))", "b * (.true - x1 % Box.x1)"),
+    (
+        "(10*mm<=0.5*(2 mm) ? 1e9 : a)",
+        "10 * mm <= 0.5 * 2 mm ? 1000000000 : a",
+    ),
+    ("(round(1E-2)) / (-(-(00012)))", "round(0.01) / --12"),
+    (
+        "count((-<<m>>.true) * m.länge)",
+        "count(-<<m>>.true * m.länge)",
+    ),
+    (
+        "-<<_x>>.Width % ((Width - 0)^1)",
+        "-<<_x>>.Width % (Width - 0)^1",
+    ),
+    (
+        "(sum(1e3 um;0.001 mm)>mm ? 360 : 1)",
+        "sum(1000 um; 0.001 mm) > mm ? 360 : 1",
+    ),
+    (
+        "((true ? 12.75 : q))^0 % (trunc(10+V.länge))",
+        "(true ? 12.75 : q)^0 % trunc(10 + V.länge)",
+    ),
+    (
+        "(3.3333333333333333333333333*deg >= gon ? p : Box.p)",
+        "3.333333333 * deg >= gon ? p : Box.p",
+    ),
+];
 
-/// Holds that a text is printed as it is.
-fn assert_kept(rt: &impl Abort, alloc: Global, text: &str) -> Result<(), Fail> {
+/// Texts in which a token is wrong, and the place of the first such.
+static WRONG: [(&str, u64); 55] = [
+    // Worked out by hand.
+    ("", 0),
+    (" ", 1),
+    ("1 +", 3),
+    ("1 + * 2", 4),
+    ("* 2", 0),
+    ("1 2", 2),
+    ("1 mm m", 5),
+    ("true mm", 5),
+    ("(1", 2),
+    ("1)", 1),
+    ("())", 1),
+    ("1.", 2),
+    ("1e", 1),
+    ("foo(1)", 0),
+    ("a.sum(1)", 8),
+    ("a < b < c", 9),
+    ("a..b", 4),
+    ("Box.Placement.Base", 18),
+    ("x^-", 3),
+    ("2^100", 5),
+    ("1 mm^2.5", 8),
+    ("sum()", 4),
+    ("sum(A2:A1)", 10),
+    ("abs(1;2)", 8),
+    ("mod(1)", 6),
+    ("a ? b", 5),
+    ("<<a<b>>.c d", 10),
+    ("a ^ b", 5),
+    ("* 1", 0),
+    ("1 + * / 2", 4),
+    ("1 2 3", 2),
+    ("2 mm mm", 5),
+    ("a b", 2),
+    ("foo(1) 2", 0),
+    ("1 + foo(2)", 4),
+    ("1)) 2", 1),
+    ("(1) 2", 4),
+    ("(1))", 3),
+    // Rows from outside.
+    ("24,", 3),
+    ("-.c^1-", 6),
+    ("1eé3 ft", 1),
+    ("<<<>> kg", 6),
+    ("0.5 m ? 1", 9),
+    ("/00012>m.b", 0),
+    ("(7*mm  ft)*0", 7),
+    ("floor(count:(.s*0))", 19),
+    ("10000000000000000000 n", 21),
+    ("B(ox.true + Box.Height  ", 0),
+    ("1*(1 mm^mm2)==(thou-(2 km))^2", 29),
+    ("0.5*(0.000000001 thou+(1*(1e3 d)))", 30),
+    ("(true ? 3 mm : dm/.24) - ((0 um)/3)", 35),
+    ("abs(mod(0.001 mm % (0.001 nm);+2.5 thou))", 30),
+    ("(true^ ? 360 deg+(360*deg) < 7 deg : true)", 42),
+    ("sum((3 + 1e9) /, (10000000000000000000*x1))", 15),
+    ("(average(9999999999999999999*mm)) / 1e3+(0 cm) ? 1", 50),
+];
+
+/// Texts with a place where no token begins.
+static NO_TOKEN: [(&str, u64); 12] = [
+    ("<<a", 0),
+    ("1 + <<a>", 4),
+    ("1 # 2", 2),
+    ("1 = 2", 2),
+    ("!x", 0),
+    ("$A$0", 0),
+    ("A$0", 1),
+    ("10000000000000000001", 0),
+    ("1 + * #", 6),
+    ("<<<>", 0),
+    ("sum(2.5 cm;thou;100$0000 m)", 19),
+    ("sum=(360 mm^2) < 10000000000000000000*mm^2", 3),
+];
+
+/// Texts that are too large, or nearly so: a piece, how often it stands, and what stands behind; the
+/// cause of the refusal, and its place.
+static LONG: [(&str, u32, &str, ExprCause, u64); 7] = [
+    ("(", 33, "#", ExprCause::Lexical, 33),
+    ("(", 33, "1 2", ExprCause::TooLarge, 32),
+    ("(", 33, "", ExprCause::TooLarge, 32),
+    ("(", 32, "", ExprCause::Syntax, 32),
+    ("-", 512, "1", ExprCause::TooLarge, 512),
+    ("-", 513, "", ExprCause::TooLarge, 512),
+    ("-", 512, "", ExprCause::Syntax, 512),
+];
+
+/// A piece, how often it stands before `1`, and whether the printed form is too large.
+static MEASURED: [(&str, u32, bool); 3] = [
+    ("1+", 255, false),
+    ("1mm^2^2+", 56, false),
+    ("1mm^2^2+", 57, true),
+];
+
+/// A piece, how often it stands, what stands behind, and what closes each piece.
+static DEEP: [(&str, u32, &str, &str); 4] = [
+    ("-", 511, "1", ""),
+    ("1 ? 1 : ", 127, "1", ""),
+    ("1 + ", 255, "1", ""),
+    ("1 - (", 32, "1 - 2", ")"),
+];
+
+/// Holds that a text is printed in a form, which is read as the same; and that its copy is printed so.
+fn assert_printed(rt: &impl Abort, alloc: Global, text: &str, want: &str) -> Result<(), Fail> {
     let tree = parse(alloc, text)?;
-    assert_eq!(rt; print(alloc, &tree)?.as_str(), text);
+    let printed = print(alloc, &tree)?;
+    assert_eq!(rt; printed.as_str(), want, "{text}");
+    let again = parse(alloc, printed.as_str())?;
+    assert_eq!(rt;
+        print(alloc, &again)?.as_str(),
+        want,
+        "{text} printed and read"
+    );
     let copied = tree.copy(alloc)?;
-    assert_eq!(rt; print(alloc, &copied)?.as_str(), text, "a copy of {text}");
+    assert_eq!(rt; print(alloc, &copied)?.as_str(), want, "a copy of {text}");
     Ok(())
 }
 
@@ -49,23 +231,16 @@ fn assert_fault(rt: &impl Abort, alloc: Global, cause: ExprCause, text: &str, pl
     );
 }
 
-/// Holds that each text is refused for the cause at its place. A row is a text and the place.
-fn assert_refused(
-    rt: &impl Abort,
+/// A front, so many copies of a piece, and an end.
+pub fn repeated(
     alloc: Global,
-    cause: ExprCause,
-    rows: &str,
-) -> Result<(), Fail> {
-    for row in rows.lines() {
-        let (text, place) = row.split_once(" → ").ok_or("no row")?;
-        assert_fault(rt, alloc, cause, text, place.parse()?);
-    }
-    Ok(())
-}
-
-/// So many copies of a piece, and an end.
-fn repeated(alloc: Global, piece: &str, count: u32, end: &str) -> Result<String, AllocError> {
+    front: &str,
+    piece: &str,
+    count: u32,
+    end: &str,
+) -> Result<String, AllocError> {
     let mut text = String::new(alloc);
+    text.push_str(front)?;
     for _ in 0..count {
         text.push_str(piece)?;
     }
@@ -74,213 +249,35 @@ fn repeated(alloc: Global, piece: &str, count: u32, end: &str) -> Result<String,
 }
 
 #[test]
-fn prints_leaves(rt: HostRuntime) -> Result<(), Fail> {
-    assert_printed(
-        &rt,
-        rt.alloc(),
-        "\
-         007 → 7\n\
-         0.50 → 0.5\n\
-         1e3 → 1000\n\
-         0.0000000005 → 0.000000001\n\
-         0.00000000049 → 0\n\
-         2.5mm → 2.5 mm\n\
-         1 mm^02 → 1 mm^2\n\
-         1 mm^1 → 1 mm\n\
-         1\tmm ^ - 2 → 1 mm^-2\n\
-         mm → mm\n\
-         true → true\n\
-         <<a  \tb>> → <<a  \tb>>\n\
-         Width → Width\n\
-         .Width → Width\n\
-         .m → .m\n\
-         Box . m → Box.m\n\
-         A1 → A1\n\
-         $A$1 → $A$1\n\
-         S.A$1 → S.A$1\n\
-         Placement.Base.x → Placement.Base.x\n\
-         .m.Base.y → m.Base.y\n\
-         Box.Placement.Rotation.Turn → Box.Placement.Rotation.Turn\n\
-         <<My box>> . Width → <<My box>>.Width\n\
-         länge+Größe.c → länge + Größe.c\n\
-         ",
-    )
-}
-
-#[test]
-fn prints_needed_brackets_alone(rt: HostRuntime) -> Result<(), Fail> {
-    assert_printed(
-        &rt,
-        rt.alloc(),
-        "\
-         1-2-3 → 1 - 2 - 3\n\
-         1-(2-3) → 1 - (2 - 3)\n\
-         ((1-2))-3 → 1 - 2 - 3\n\
-         6/2*3 → 6 / 2 * 3\n\
-         6/(2*3) → 6 / (2 * 3)\n\
-         2*(3+4)%5 → 2 * (3 + 4) % 5\n\
-         2*-3 → 2 * -3\n\
-         -2*3 → -2 * 3\n\
-         -(2*3) → -(2 * 3)\n\
-         --1 → --1\n\
-         -2^2 → -2^2\n\
-         (-2)^2 → (-2)^2\n\
-         3^4^2 → 3^4^2\n\
-         (1 mm)^2 → (1 mm)^2\n\
-         1 mm^2^3 → (1 mm^2)^3\n\
-         mm^2 → mm^2\n\
-         1<2 → 1 < 2\n\
-         (1<2)==true → (1 < 2) == true\n\
-         a?b:c?d:e → a ? b : c ? d : e\n\
-         (a?b:c)?d:e → (a ? b : c) ? d : e\n\
-         a?(b?c:d):e → a ? b ? c : d : e\n\
-         1+(a?b:c) → 1 + (a ? b : c)\n\
-         mod ( 7,3 ) → mod(7; 3)\n\
-         floor((1.5 mm)) → floor(1.5 mm)\n\
-         sum( $A1:B$2 ,3;A1) → sum($A1:B$2; 3; A1)\n\
-         ",
-    )
-}
-
-#[test]
-fn prints_rows_from_outside(rt: HostRuntime) -> Result<(), Fail> {
-    assert_printed(
-        &rt,
-        rt.alloc(),
-        "\
-         q/.true → q / .true\n\
-         -(<<Größe>>.true) → -<<Größe>>.true\n\
-         1e9-360 + 360 - 3 → 1000000000 - 360 + 360 - 3\n\
-         mod((-1e3)^1;2.5) → mod((-1000)^1; 2.5)\n\
-         trunc(-_x.c)-(-x1) → trunc(-_x.c) - -x1\n\
-         (m.true-1000000)^12 → (m.true - 1000000)^12\n\
-         (mod(m.b, q)) / 2-2 → mod(m.b; q) / 2 - 2\n\
-         -_x.Width-24+_x.Width → -_x.Width - 24 + _x.Width\n\
-         (7>sum(.s, .s) ? .s : .s) → 7 > sum(.s; .s) ? .s : .s\n\
-         b*(.true - (x1 % Box.x1)) → b * (.true - x1 % Box.x1)\n\
-         (10*mm<=0.5*(2 mm) ? 1e9 : a) → 10 * mm <= 0.5 * 2 mm ? 1000000000 : a\n\
-         (round(1E-2)) / (-(-(00012))) → round(0.01) / --12\n\
-         count((-<<m>>.true) * m.länge) → count(-<<m>>.true * m.länge)\n\
-         -<<_x>>.Width % ((Width - 0)^1) → -<<_x>>.Width % (Width - 0)^1\n\
-         (sum(1e3 um;0.001 mm)>mm ? 360 : 1) → sum(1000 um; 0.001 mm) > mm ? 360 : 1\n\
-         ((true ? 12.75 : q))^0 % (trunc(10+V.länge)) → (true ? 12.75 : q)^0 % trunc(10 + V.länge)\n\
-         (3.3333333333333333333333333*deg >= gon ? p : Box.p) → 3.333333333 * deg >= gon ? p : Box.p\n\
-         ",
-    )
-}
-
-#[test]
-fn finds_the_first_wrong_token(rt: HostRuntime) -> Result<(), Fail> {
-    assert_refused(
-        &rt,
-        rt.alloc(),
-        ExprCause::Syntax,
-        "\
-          \u{20}→ 0\n\
-         \u{20} → 1\n\
-         1 + → 3\n\
-         1 + * 2 → 4\n\
-         * 2 → 0\n\
-         1 2 → 2\n\
-         1 mm m → 5\n\
-         true mm → 5\n\
-         (1 → 2\n\
-         1) → 1\n\
-         ()) → 1\n\
-         1. → 2\n\
-         1e → 1\n\
-         foo(1) → 0\n\
-         a.sum(1) → 8\n\
-         a < b < c → 9\n\
-         a..b → 4\n\
-         Box.Placement.Base → 18\n\
-         x^- → 3\n\
-         2^100 → 5\n\
-         1 mm^2.5 → 8\n\
-         sum() → 4\n\
-         sum(A2:A1) → 10\n\
-         abs(1;2) → 8\n\
-         mod(1) → 6\n\
-         a ? b → 5\n\
-         <<a<b>>.c d → 10\n\
-         ",
-    )
-}
-
-#[test]
-fn finds_the_first_wrong_token_of_rows_from_outside(rt: HostRuntime) -> Result<(), Fail> {
-    assert_refused(
-        &rt,
-        rt.alloc(),
-        ExprCause::Syntax,
-        "\
-         24, → 3\n\
-         -.c^1- → 6\n\
-         1eé3 ft → 1\n\
-         <<<>> kg → 6\n\
-         0.5 m ? 1 → 9\n\
-         /00012>m.b → 0\n\
-         (7*mm  ft)*0 → 7\n\
-         floor(count:(.s*0)) → 19\n\
-         10000000000000000000 n → 21\n\
-         B(ox.true + Box.Height   → 0\n\
-         1*(1 mm^mm2)==(thou-(2 km))^2 → 29\n\
-         0.5*(0.000000001 thou+(1*(1e3 d))) → 30\n\
-         (true ? 3 mm : dm/.24) - ((0 um)/3) → 35\n\
-         abs(mod(0.001 mm % (0.001 nm);+2.5 thou)) → 30\n\
-         (true^ ? 360 deg+(360*deg) < 7 deg : true) → 42\n\
-         sum((3 + 1e9) /, (10000000000000000000*x1)) → 15\n\
-         (average(9999999999999999999*mm)) / 1e3+(0 cm) ? 1 → 50\n\
-         ",
-    )
-}
-
-#[test]
-fn finds_where_no_token_begins(rt: HostRuntime) -> Result<(), Fail> {
-    assert_refused(
-        &rt,
-        rt.alloc(),
-        ExprCause::Lexical,
-        "\
-         <<a → 0\n\
-         1 + <<a> → 4\n\
-         1 # 2 → 2\n\
-         1 = 2 → 2\n\
-         !x → 0\n\
-         $A$0 → 0\n\
-         A$0 → 1\n\
-         10000000000000000001 → 0\n\
-         1 + * # → 6\n\
-         <<<> → 0\n\
-         sum(2.5 cm;thou;100$0000 m) → 19\n\
-         sum=(360 mm^2) < 10000000000000000000*mm^2 → 3\n\
-         ",
-    )?;
-    let brackets = repeated(rt.alloc(), "(", 33, "#")?;
-    assert_fault(&rt, rt.alloc(), ExprCause::Lexical, brackets.as_str(), 33);
+fn prints_texts(rt: HostRuntime) -> Result<(), Fail> {
+    for (text, want) in &PRINTED {
+        assert_printed(&rt, rt.alloc(), text, want)?;
+    }
     Ok(())
 }
 
 #[test]
-fn counts_tokens_and_brackets(rt: HostRuntime) -> Result<(), Fail> {
-    let minuses = repeated(rt.alloc(), "-", 512, "1")?;
-    let brackets = repeated(rt.alloc(), "(", 33, "1 2")?;
-    assert_fault(&rt, rt.alloc(), ExprCause::TooLarge, minuses.as_str(), 512);
-    assert_fault(&rt, rt.alloc(), ExprCause::TooLarge, brackets.as_str(), 32);
+fn refuses_texts(rt: HostRuntime) -> Result<(), Fail> {
+    for (text, place) in &WRONG {
+        assert_fault(&rt, rt.alloc(), ExprCause::Syntax, text, *place);
+    }
+    for (text, place) in &NO_TOKEN {
+        assert_fault(&rt, rt.alloc(), ExprCause::Lexical, text, *place);
+    }
+    for (piece, count, end, cause, place) in &LONG {
+        let text = repeated(rt.alloc(), "", piece, *count, end)?;
+        assert_fault(&rt, rt.alloc(), *cause, text.as_str(), *place);
+    }
     Ok(())
 }
 
 #[test]
 fn measures_printed_forms(rt: HostRuntime) -> Result<(), Fail> {
-    let alloc = rt.alloc();
-    for (piece, count, end, want) in [
-        ("1+", 255, "1", false),
-        ("1mm^2^2+", 56, "1", false),
-        ("1mm^2^2+", 57, "1", true),
-    ] {
-        let text = repeated(alloc, piece, count, end)?;
-        let tree = parse(alloc, text.as_str())?;
-        assert_eq!(rt; is_too_large(alloc, &tree)?, want, "{piece} {count}");
+    for (piece, count, want) in &MEASURED {
+        let text = repeated(rt.alloc(), "", piece, *count, "1")?;
+        let tree = parse(rt.alloc(), text.as_str())?;
+        let large = is_too_large(rt.alloc(), &tree)?;
+        assert_eq!(rt; large, *want, "{piece} {count}");
     }
     Ok(())
 }
@@ -288,15 +285,10 @@ fn measures_printed_forms(rt: HostRuntime) -> Result<(), Fail> {
 /// The deepest trees of 512 tokens and 32 brackets are read, printed and copied within the stack.
 #[test]
 fn reads_deep_trees(rt: HostRuntime) -> Result<(), Fail> {
-    let minuses = repeated(rt.alloc(), "-", 511, "1")?;
-    let choices = repeated(rt.alloc(), "1 ? 1 : ", 127, "1")?;
-    let signs = repeated(rt.alloc(), "1 + ", 255, "1")?;
-    let mut brackets = repeated(rt.alloc(), "1 - (", 32, "1 - 2")?;
-    for _ in 0..32 {
-        brackets.push_str(")")?;
-    }
-    for text in [&minuses, &choices, &signs, &brackets] {
-        assert_kept(&rt, rt.alloc(), text.as_str())?;
+    for (piece, count, middle, closed) in &DEEP {
+        let front = repeated(rt.alloc(), "", piece, *count, middle)?;
+        let text = repeated(rt.alloc(), front.as_str(), closed, *count, "")?;
+        assert_printed(&rt, rt.alloc(), text.as_str(), text.as_str())?;
     }
     Ok(())
 }

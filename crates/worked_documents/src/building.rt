@@ -1,0 +1,172 @@
+//! Documents of VarSets, built from lines of text.
+ghost use Rattle.std.specs.Prelude.{◌≡◌, ◌+◌, ◌<◌, length, IfOk, IsSome, OnOk};
+ghost use Rattle.object_paths.specs.declared.path.Owner.TheVariants.{Here};
+ghost use Rattle.object_paths.specs.declared.slot_name.SlotName.TheVariants.{Plain};
+ghost use Rattle.doc_tables.specs.Numbered.{slot_at};
+
+use doc_tables::Tables;
+use document_model::{Content, ObjectKind};
+use expr_grammar::parse;
+use fc_base::{Label, Name, SlotId, TextValue};
+use object_paths::{Owner, Path, SlotName};
+use property_types::{PropType, Value};
+use quantities::{Quantity, read_decimal};
+use std::alloc::{AllocError, Global};
+use std::test::Fail;
+use unit_signatures::{Unit, unit_named};
+
+/// Adds a VarSet.
+fn add_object(alloc: Global, tables: &mut Tables, name: &str, label: &str) -> Result<(), Fail>
+    requires { length tables.old.objects < 10000 }
+    ensures { OnOk result (length tables.new.objects ≡ length tables.old.objects + 1) }
+{
+    if tables.object_named(name).is_some() {
+        return Err(Fail::new("the name is taken"));
+    }
+    let label = Label::read(alloc, label)?;
+    let name = Name::read(alloc, name)?;
+    tables.add_object(name, label, ObjectKind::VarSet)?;
+    Ok(())
+}
+
+/// VarSets without properties. A line is the name of one, and its label where that is another.
+pub fn objects_of(alloc: Global, lines: &str) -> Result<Tables, Fail> {
+    let mut tables = Tables::new(alloc);
+    let mut count: u32 = 0;
+    for line in lines.lines() {
+        if count == 5000 {
+            return Err(Fail::new("too many objects"));
+        }
+        let (name, label) = line.split_once(' ').unwrap_or((line, line));
+        add_object(alloc, &mut tables, name, label)?;
+        count += 1;
+    }
+    Ok(tables)
+}
+
+/// The path of an object's own slot.
+fn own_path(alloc: Global, name: &Name) -> Result<Path, AllocError>
+    ensures { IfOk result (λ p. p ≡ record { owner = Here; slot = Plain name.now }) }
+{
+    Ok(Path {
+        owner: Owner::Here,
+        slot: SlotName::Plain(name.copy(alloc)?),
+    })
+}
+
+/// Adds a property of one slot.
+pub fn add_slot(
+    alloc: Global,
+    tables: &mut Tables,
+    object: &str,
+    name: &str,
+    prop: PropType,
+) -> Result<(), Fail> {
+    if let PropType::Placement = prop {
+        return Err(Fail::new("it has four slots"));
+    }
+    let Some(object) = tables.object_named(object) else {
+        return Err(Fail::new("no such object"));
+    };
+    let name = Name::read(alloc, name)?;
+    let path = own_path(alloc, &name)?;
+    if tables.resolve(object, &path).is_some() {
+        return Err(Fail::new("the name is taken"));
+    }
+    if tables.slot_limit() == u32::MAX {
+        return Err(Fail::new("too many slots"));
+    }
+    tables.holds_var_sets();
+    tables.add_property(object, name, prop)?;
+    Ok(())
+}
+
+/// The slot of an object's property.
+pub fn slot_named(alloc: Global, tables: &Tables, object: &str, name: &str) -> Result<SlotId, Fail>
+    ensures { IfOk result (λ id. IsSome (slot_at tables.now id.0)) }
+{
+    let Some(object) = tables.object_named(object) else {
+        return Err(Fail::new("no such object"));
+    };
+    let name = Name::read(alloc, name)?;
+    let path = own_path(alloc, &name)?;
+    match tables.resolve(object, &path) {
+        Some(slot) => Ok(slot),
+        None => Err(Fail::new("no such slot")),
+    }
+}
+
+/// Binds a slot to an expression.
+pub fn bind(
+    alloc: Global,
+    tables: &mut Tables,
+    object: &str,
+    name: &str,
+    text: &str,
+) -> Result<(), Fail> {
+    let slot = slot_named(alloc, tables, object, name)?;
+    let tree = parse(alloc, text)?;
+    tables.set_rule(slot, Content::Bound(tree))?;
+    Ok(())
+}
+
+/// A value, such as `2.5`, `2.5 mm`, `true` or `<<a text>>`.
+fn value_of(alloc: Global, text: &str) -> Result<Value, Fail> {
+    if text == "true" {
+        return Ok(Value::Flag(true));
+    }
+    if let Some(text) = text.strip_prefix("<<") {
+        let text = text.strip_suffix(">>").ok_or("no end of a text")?;
+        return Ok(Value::Text(TextValue::read(alloc, text)?));
+    }
+    let (amount, unit) = text.split_once(' ').unwrap_or((text, ""));
+    let amount = read_decimal(amount.as_bytes())?;
+    let unit = match unit_named(unit) {
+        Some((_, unit)) => unit,
+        None => Unit::pure(),
+    };
+    Ok(Value::Number(Quantity { amount, unit }))
+}
+
+/// Puts a value into a slot.
+fn put_value(
+    alloc: Global,
+    tables: &mut Tables,
+    object: &str,
+    name: &str,
+    text: &str,
+) -> Result<(), Fail> {
+    let slot = slot_named(alloc, tables, object, name)?;
+    let value = value_of(alloc, text)?;
+    tables.set_rule(slot, Content::Own(value))?;
+    Ok(())
+}
+
+/// Adds a slot of a type, such as `Length`.
+fn add_typed(
+    alloc: Global,
+    tables: &mut Tables,
+    object: &str,
+    name: &str,
+    prop: &str,
+) -> Result<(), Fail> {
+    let prop = format!(in alloc; "App::Property{prop}")?;
+    let prop = PropType::named(prop.as_str()).ok_or("no such type")?;
+    add_slot(alloc, tables, object, name, prop)
+}
+
+/// Adds the slot of a line: `A.a Float` with zero in it, `A.a Float = b + 1` with an expression, or
+/// `A.a Length := 2.5 mm` with a value of its own.
+pub fn add_line(alloc: Global, tables: &mut Tables, line: &str) -> Result<(), Fail> {
+    let (path, told) = line.split_once(' ').ok_or("no type")?;
+    let (object, name) = path.split_once('.').ok_or("no slot")?;
+    if let Some((prop, value)) = told.split_once(" := ") {
+        add_typed(alloc, tables, object, name, prop)?;
+        return put_value(alloc, tables, object, name, value);
+    }
+    if let Some((prop, expression)) = told.split_once(" = ") {
+        add_typed(alloc, tables, object, name, prop)?;
+        return bind(alloc, tables, object, name, expression);
+    }
+    add_typed(alloc, tables, object, name, told)
+}
