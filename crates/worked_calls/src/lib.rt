@@ -2,4 +2,8 @@
 #![tactic(auto)]
 
 #[cfg(test)]
+mod evaluation;
+#[cfg(test)]
 mod grammar;
+#[cfg(test)]
+mod postfix;
