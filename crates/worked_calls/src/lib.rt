@@ -6,4 +6,6 @@ mod evaluation;
 #[cfg(test)]
 mod grammar;
 #[cfg(test)]
+mod numbers;
+#[cfg(test)]
 mod postfix;
