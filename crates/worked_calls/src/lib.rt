@@ -9,3 +9,5 @@ mod grammar;
 mod numbers;
 #[cfg(test)]
 mod postfix;
+#[cfg(test)]
+mod types;
