@@ -8,6 +8,8 @@ mod grammar;
 #[cfg(test)]
 mod numbers;
 #[cfg(test)]
+mod paths;
+#[cfg(test)]
 mod postfix;
 #[cfg(test)]
 mod types;
