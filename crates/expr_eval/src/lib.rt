@@ -8,14 +8,10 @@ mod env;
 mod evaluation;
 pub mod laws;
 mod numbers;
-#[cfg(test)]
-mod postfix;
 mod references;
 mod sort_cause;
 mod sort_rows;
 mod sorts;
-#[cfg(test)]
-mod tests;
 
 pub use env::Env;
 pub use evaluation::evaluate;

@@ -111,31 +111,3 @@ impl Path {
         Ok(text)
     }
 }
-
-#[cfg(test)]
-mod tests {
-    use super::*;
-    use fc_base::Address;
-    use std::test::Fail;
-
-    #[test]
-    fn writes_paths_from_outside(rt: HostRuntime) -> Result<(), Fail> {
-        for (text, want) in [
-            ("a", "V.a"),
-            (".m", "V.m"),
-            ("Placement.Base.x", "V.Placement.Base.x"),
-            ("Placement.Rotation.Turn", "V.Placement.Rotation.Turn"),
-            ("$A$5", "V.$A$5"),
-        ] {
-            let object = Name::read(rt.alloc(), "V")?;
-            let path = Path::read(rt.alloc(), text)?;
-            let outer = slot_path(rt.alloc(), &object, &path.slot)?;
-            assert_eq!(rt; outer.as_str(), want);
-        }
-        let sheet = Name::read(rt.alloc(), "S")?;
-        let cell = Address::read("A5").ok_or("no address")?;
-        let outer = slot_path(rt.alloc(), &sheet, &SlotName::Marked(cell))?;
-        assert_eq!(rt; outer.as_str(), "S.A5");
-        Ok(())
-    }
-}

@@ -6,8 +6,6 @@ pub mod laws;
 mod outcomes;
 mod plan;
 mod prop_type;
-#[cfg(test)]
-mod tests;
 mod value;
 
 pub use fit::FitFault;

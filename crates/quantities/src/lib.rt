@@ -12,8 +12,6 @@ mod quantity;
 mod quantity_fault;
 mod round_trip;
 mod scaling;
-#[cfg(test)]
-mod tests;
 mod texts;
 
 pub use amount::{Amount, Range};

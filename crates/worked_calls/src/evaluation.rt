@@ -1,6 +1,8 @@
-use super::*;
+//! Sorts, outcomes and steps of expressions, for what stands behind their references.
+
 use crate::postfix::build;
 use arrayvec::ArrayString;
+use expr_eval::{Env, SortCause, SortFault, SortOutcome, evaluate, reference_count, sort_of};
 use fc_base::{SlotId, Steps};
 use property_types::{Outcome, Sort, Value, ValueFault};
 use quantities::{Amount, Quantity};

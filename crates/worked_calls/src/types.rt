@@ -1,6 +1,11 @@
-use super::*;
+//! How values fit types, the zeros of types, plans and outcomes.
+
 use arrayvec::ArrayString;
 use fc_base::{Name, SlotId, TextValue};
+use property_types::{
+    FitFault, InputPlan, Outcome, Outcomes, OutputPlan, PropType, SlotPlan, Sort, Value,
+    ValueFault, copy_outcome,
+};
 use quantities::{Amount, Quantity};
 use std::alloc::Global;
 use std::test::Fail;

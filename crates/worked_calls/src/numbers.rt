@@ -1,5 +1,7 @@
-use super::*;
+//! Numbers with nine decimals, and numbers with units.
+
 use arrayvec::ArrayString;
+use quantities::{Amount, AmountFault, DecimalFault, Quantity, QuantityFault, read_decimal};
 use unit_signatures::unit_named;
 
 const GREATEST: i128 = 10_000_000_000_000_000_000_000_000_000;

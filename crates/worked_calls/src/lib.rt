@@ -1,0 +1,15 @@
+//! Public calls of the crates, tried on worked values.
+#![tactic(auto)]
+
+#[cfg(test)]
+mod evaluation;
+#[cfg(test)]
+mod grammar;
+#[cfg(test)]
+mod numbers;
+#[cfg(test)]
+mod paths;
+#[cfg(test)]
+mod postfix;
+#[cfg(test)]
+mod types;
