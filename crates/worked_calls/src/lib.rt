@@ -12,4 +12,6 @@ mod paths;
 #[cfg(test)]
 mod postfix;
 #[cfg(test)]
+mod tables;
+#[cfg(test)]
 mod types;
