@@ -4,6 +4,8 @@
 #[cfg(test)]
 mod evaluation;
 #[cfg(test)]
+mod files;
+#[cfg(test)]
 mod grammar;
 #[cfg(test)]
 mod numbers;
