@@ -14,6 +14,8 @@ mod paths;
 #[cfg(test)]
 mod postfix;
 #[cfg(test)]
+mod rules;
+#[cfg(test)]
 mod tables;
 #[cfg(test)]
 mod types;
