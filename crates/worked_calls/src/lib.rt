@@ -16,6 +16,8 @@ mod postfix;
 #[cfg(test)]
 mod rules;
 #[cfg(test)]
+mod runs;
+#[cfg(test)]
 mod tables;
 #[cfg(test)]
 mod types;

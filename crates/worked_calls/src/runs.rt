@@ -2,14 +2,9 @@
 
 ghost use Rattle.std.specs.Prelude.{◌≤◌};
 
-use crate::command::Command;
-use crate::opening::OpenFault;
-use crate::reply::Reply;
-use crate::session::Session;
-use crate::status::Status;
-use crate::top::run;
 use doc_rules::DocFault;
 use fc_base::{MemorySink, MemoryStore, Steps, TextValue};
+use fcdoc_core::{Command, OpenFault, Reply, Session, Status, run};
 use property_types::Value;
 use quantities::{Amount, Quantity};
 use std::alloc::{AllocError, Global};
@@ -80,8 +75,7 @@ fn reads_one_value(rt: HostRuntime) -> Result<(), Fail> {
 #[test]
 fn refusals_of_get(rt: HostRuntime) -> Result<(), Fail> {
     let script = "get V.a\nget V.b\nget W.a\nrecompute\n";
-    let text =
-        "= 2\nrefused 3 NoProperty\nrefused 2 NoObject\nrecomputed 0 calls 0 faults\n";
+    let text = "= 2\nrefused 3 NoProperty\nrefused 2 NoObject\nrecomputed 0 calls 0 faults\n";
     assert!(rt; answers(rt.alloc(), script, Status::SomeRefused, text)?);
     Ok(())
 }
@@ -162,8 +156,10 @@ fn usage_and_script_refused(rt: HostRuntime) -> Result<(), Fail> {
 
 #[test]
 fn never_stale(rt: HostRuntime) -> Result<(), Fail> {
-    let script = "bind V.a 2^3\nget V.a\nrecompute\nget V.a\nexpr V.a\nbind V.a V.a\nset V.a 1/4\nget V.a\nexpr V.a\n";
-    let text = "ok\nrefused 28 NotRecomputed\nrecomputed 0 calls 0 faults\n= 8\n: 2^3\nrefused 14 Cycle V.a\nok\n= 0.25\n: none\n";
+    let script =
+        "bind V.a 2^3\nget V.a\nrecompute\nget V.a\nexpr V.a\nbind V.a V.a\nset V.a 1/4\nget V.a\nexpr V.a\n";
+    let text =
+        "ok\nrefused 28 NotRecomputed\nrecomputed 0 calls 0 faults\n= 8\n: 2^3\nrefused 14 Cycle V.a\nok\n= 0.25\n: none\n";
     assert!(rt; answers(rt.alloc(), script, Status::SomeRefused, text)?);
     Ok(())
 }
@@ -181,9 +177,18 @@ fn steps_of(alloc: Global, lines: &[&str]) -> Result<u64, Fail> {
 
 #[test]
 fn recompute_counts_nodes(rt: HostRuntime) -> Result<(), Fail> {
-    assert_eq!(rt; steps_of(rt.alloc(), &["bind V.a 1 + 2 * 3", "recompute"])?, 5);
-    assert_eq!(rt; steps_of(rt.alloc(), &["bind V.a true ? 1 : 2", "recompute"])?, 3);
-    assert_eq!(rt; steps_of(rt.alloc(), &["set V.a 1 + 2", "recompute", "get V.a"])?, 0);
+    assert_eq!(rt;
+        steps_of(rt.alloc(), &["bind V.a 1 + 2 * 3", "recompute"])?,
+        5
+    );
+    assert_eq!(rt;
+        steps_of(rt.alloc(), &["bind V.a true ? 1 : 2", "recompute"])?,
+        3
+    );
+    assert_eq!(rt;
+        steps_of(rt.alloc(), &["set V.a 1 + 2", "recompute", "get V.a"])?,
+        0
+    );
     Ok(())
 }
 
@@ -203,7 +208,10 @@ fn writes_values(rt: HostRuntime) -> Result<(), Fail> {
     assert_eq!(rt; flag.as_slice(), b"= true\n".as_slice());
     let text = TextValue::read(alloc, "a \"b\" \\ c\n\r\t")?;
     let text = line_of(alloc, Value::Text(text))?;
-    assert_eq!(rt; text.as_slice(), b"= \"a \\\"b\\\" \\\\ c\\n\\r\\t\"\n".as_slice());
+    assert_eq!(rt;
+        text.as_slice(),
+        b"= \"a \\\"b\\\" \\\\ c\\n\\r\\t\"\n".as_slice()
+    );
     Ok(())
 }
 
