@@ -18,8 +18,6 @@ mod sort_rules;
 mod sorts;
 mod sorts_behind;
 mod subjects;
-#[cfg(test)]
-mod tests;
 mod values;
 
 pub use checking::check;

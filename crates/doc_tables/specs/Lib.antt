@@ -8,4 +8,3 @@ pub mod Held
 pub mod Entries
 pub mod Counted
 pub mod Shown
-pub mod Sample

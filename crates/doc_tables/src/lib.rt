@@ -11,8 +11,6 @@ mod objects;
 mod rule;
 mod slots;
 mod tables;
-#[cfg(test)]
-mod tests;
 
 pub use entry::{ObjectEntry, PropertyEntry, SlotPlace};
 pub use rule::Rule;

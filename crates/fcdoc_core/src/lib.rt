@@ -15,8 +15,6 @@ mod session;
 mod status;
 mod step_fault;
 mod stop;
-#[cfg(test)]
-mod tests;
 mod top;
 mod writing;
 

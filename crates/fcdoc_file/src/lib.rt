@@ -7,8 +7,6 @@ mod filling;
 mod first_document;
 mod reading;
 mod standing;
-#[cfg(test)]
-mod tests;
 mod var_set;
 
 pub use fault::LoadError;

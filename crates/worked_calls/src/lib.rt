@@ -4,6 +4,8 @@
 #[cfg(test)]
 mod evaluation;
 #[cfg(test)]
+mod files;
+#[cfg(test)]
 mod grammar;
 #[cfg(test)]
 mod numbers;
@@ -11,5 +13,11 @@ mod numbers;
 mod paths;
 #[cfg(test)]
 mod postfix;
+#[cfg(test)]
+mod rules;
+#[cfg(test)]
+mod runs;
+#[cfg(test)]
+mod tables;
 #[cfg(test)]
 mod types;

@@ -2,14 +2,9 @@
 
 ghost use Rattle.std.specs.Prelude.{◌≤◌};
 
-use crate::command::Command;
-use crate::opening::OpenFault;
-use crate::reply::Reply;
-use crate::session::Session;
-use crate::status::Status;
-use crate::top::run;
 use doc_rules::DocFault;
 use fc_base::{MemorySink, MemoryStore, Steps, TextValue};
+use fcdoc_core::{Command, OpenFault, Reply, Session, Status, run};
 use property_types::Value;
 use quantities::{Amount, Quantity};
 use std::alloc::{AllocError, Global};

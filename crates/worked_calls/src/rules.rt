@@ -1,4 +1,6 @@
-use super::*;
+//! Whether a document has a fault, and the texts of refusals.
+
+use doc_rules::{Refusal, check};
 use doc_tables::Tables;
 use fc_base::TextValue;
 use std::test::Fail;

@@ -1,8 +1,9 @@
-ghost use Rattle.std.specs.Prelude.{◌≡◌, IfOk};
-ghost use Rattle.doc_tables.specs.Sample.{one_object, one_property, two_objects, two_properties, HasTwo};
+//! What tables answer, change and copy.
 
-use crate::rule::Rule;
-use crate::tables::Tables;
+ghost use Rattle.std.specs.Prelude.{◌≡◌, IfOk};
+ghost use Rattle.worked_calls.specs.Sample.{one_object, one_property, two_objects, two_properties, HasTwo};
+
+use doc_tables::{Rule, Tables};
 use document_model::{Content, ObjectKind};
 use expr_grammar::parse;
 use fc_base::{Name, ObjectId, SlotId};

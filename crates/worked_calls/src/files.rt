@@ -1,7 +1,8 @@
-use super::*;
-use crate::load;
+//! Documents as text.
+
 use doc_tables::Tables;
 use fc_base::Name;
+use fcdoc_file::{LoadError, load};
 use object_paths::{Owner, Path, SlotName};
 use property_types::Value;
 use std::test::Fail;
