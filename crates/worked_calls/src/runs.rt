@@ -200,7 +200,7 @@ fn line_of(alloc: Global, value: Value) -> Result<Vec<u8>, AllocError> {
 #[test]
 fn writes_values(rt: HostRuntime) -> Result<(), Fail> {
     let alloc = rt.alloc();
-    let (_, unit) = unit_named("N").unwrap();
+    let (_, unit) = unit_named("N").ok_or("no unit")?;
     let amount = Amount::of_raw(-1_500_000_000)?;
     let force = line_of(alloc, Value::Number(Quantity { amount, unit }))?;
     assert_eq!(rt; force.as_slice(), b"= -1.5 mm*kg*s^-2\n".as_slice());
