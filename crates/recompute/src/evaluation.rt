@@ -36,6 +36,7 @@ pub fn work_out<L>(
     ensures works_out { OnOk result (WorksOut tables.now order.now outcomes.old outcomes.new) }
     ensures kept { OnOk result (AreKeptFor order.now outcomes.new) }
     ensures at_least { OnOk result (min (steps.old + sum_by (trees_at tables.now) order.now) (2 ^ 64 - 1) ≤ steps.new) }
+    ensures never_less { steps.old ≤ steps.new }
     ensures at_most { steps.new ≤ min (steps.old + sum_by (nodes_at tables.now) order.now) (2 ^ 64 - 1) }
 {
     tables.is_numbered();

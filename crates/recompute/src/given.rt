@@ -30,6 +30,7 @@ fn given_by_tree<L>(
     requires counted { steps.old < 2 ^ 64 }
     ensures outcome { IfOk result (IsGiven tables.now outcomes.now slot.0) }
     ensures at_least { OnOk result (min (steps.old + 1) (2 ^ 64 - 1) ≤ steps.new) }
+    ensures never_less { steps.old ≤ steps.new }
     ensures at_most { steps.new ≤ min (steps.old + node_count tree.now) (2 ^ 64 - 1) }
 {
     tables.is_numbered();
@@ -57,6 +58,7 @@ pub fn given<L>(
     requires counted { steps.old < 2 ^ 64 }
     ensures outcome { IfOk result (IsGiven tables.now outcomes.now slot.0) }
     ensures at_least { OnOk result (min (steps.old + trees_at tables.now slot.0) (2 ^ 64 - 1) ≤ steps.new) }
+    ensures never_less { steps.old ≤ steps.new }
     ensures at_most { steps.new ≤ min (steps.old + nodes_at tables.now slot.0) (2 ^ 64 - 1) }
 {
     tables.is_numbered();

@@ -50,6 +50,7 @@ fn worked_out<L>(
     requires counted { steps.old < 2 ^ 64 }
     ensures outcomes { IfOk result (λ v. (m : Meanings) → AreFull m tables.now v.items) }
     ensures at_least { OnOk result (min (steps.old + length (expressions tables.now.document)) (2 ^ 64 - 1) ≤ steps.new) }
+    ensures never_less { steps.old ≤ steps.new }
     ensures at_most { steps.new ≤ min (steps.old + nodes_of_document tables.now.document) (2 ^ 64 - 1) }
 {
     tables.is_numbered();
@@ -100,6 +101,7 @@ impl Values {
         ensures faults { IfOk result (λ report. (m : Meanings) → report.faults ≡ faults_of m tables.now.document) }
         ensures unchanged { OnErr result (self.new ≡ self.old) }
         ensures at_least { OnOk result (min (steps.old + length (expressions tables.now.document)) (2 ^ 64 - 1) ≤ steps.new) }
+        ensures never_less { steps.old ≤ steps.new }
         ensures at_most { steps.new ≤ min (steps.old + nodes_of_document tables.now.document) (2 ^ 64 - 1) }
     {
         let _count = steps.count();

@@ -34,6 +34,8 @@ loop-number-preserved g c =
     let at_least = c.in_ok-outcome.ensures.at_least in
     let at_most = c.in_ok-outcome.ensures.at_most in
     let least = c.loop-number.invariant.least in
+    let before = c.loop-number.invariant.never_less in
+    let after = c.in_ok-outcome.ensures.never_less in
     let most = c.loop-number.invariant.most in
     let trees = sum_by-drop (trees_at c.args.tables.now) order i more in
     let nodes = sum_by-drop (nodes_at c.args.tables.now) order i more in
@@ -43,5 +45,6 @@ loop-number-preserved g c =
           c.loop-number.invariant.working more used within c.in_ok-outcome.ensures.outcome;
       counted = omega arith;
       least = omega arith;
+      never_less = omega arith;
       most = omega arith;
     }
