@@ -1,5 +1,6 @@
 pub mod Commands
 pub mod Delivery
+pub mod Files
 pub mod Headline
 pub mod Machine
 pub mod OpenFaults

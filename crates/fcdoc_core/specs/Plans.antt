@@ -15,8 +15,11 @@ use Rattle.fcdoc_core.specs.declared.plan.Found.{Found}
 use Rattle.fcdoc_core.specs.declared.plan.Found.TheVariants.{Bytes, TooLong, Nothing}
 use Rattle.fcdoc_core.specs.Scripts.{most_bytes}
 use Rattle.fcdoc_core.specs.Delivery.{GaveLess, GaveFront}
-use Rattle.fcdoc_core.specs.Machine.{answers}
-use Rattle.fcdoc_core.specs.Top.{Top, text_of, one_piece, usage, missing, script_refused, replies_of}
+use Rattle.fcdoc_core.specs.Machine.{State, answers}
+use Rattle.fcdoc_core.specs.Files.{Files}
+use Rattle.fcdoc_core.specs.Opening.{Unopened}
+use Rattle.fcdoc_core.specs.Top.{Top, text_of, one_piece, usage, missing, script_refused, replies_of, top_of_names, top_of_state}
+use Rattle.fcdoc_core.specs.Words.{Names}
 
 -- what is to be written: one line, or the replies to a script
 abbrev pub top_of_plan : Plan → Top
@@ -29,6 +32,21 @@ top_of_plan (Replies session lines) = replies_of (answers no_features session li
 -- the plan is the meaning of the words, where the store tells what it holds
 abbrev pub Means : Option Held → (Held → Top) → Plan → Type 0
 Means known meaning plan = IfSome known (λ held. meaning held ≡ top_of_plan plan)
+
+-- the plan is the meaning for some bytes under the script's name, or nothing there
+pub record MeansScript (name : List ℕ) (opened : Result State Unopened) (plan : Plan) : Type 0 where
+  pub script : Option (List ℕ)
+  pub means : top_of_state no_features name script opened ≡ top_of_plan plan
+
+-- the plan is the meaning for some files of these names
+pub record MeansNames (names : Names) (plan : Plan) : Type 0 where
+  pub files : Files
+  pub means : top_of_names no_features names files.document files.script ≡ top_of_plan plan
+
+-- the same, where the words have names; else the plan is the usage line
+abbrev pub MeansFiles : Option Names → Plan → Type 0
+MeansFiles None plan = usage ≡ top_of_plan plan
+MeansFiles (Some names) plan = MeansNames names plan
 
 -- how a fetch ended: only the store's failure raised its count
 abbrev pub CountsStop : {X : Type 0} → Result X Stop → ℕ → ℕ → Type 0
@@ -55,3 +73,9 @@ abbrev pub IsFound : Held → List ℕ → Found → Type 0
 IsFound held name (Bytes v) = (get held name ≡ Some v.items) × (length v.items ≤ most_bytes)
 IsFound held name TooLong = HoldsBeyond held name most_bytes
 IsFound held name Nothing = get held name ≡ None
+
+-- bytes that were found are within the limit
+abbrev pub IsWithin : Found → Type 0
+IsWithin (Bytes v) = length v.items ≤ most_bytes
+IsWithin TooLong = Unit {0}
+IsWithin Nothing = Unit {0}

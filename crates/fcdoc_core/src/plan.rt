@@ -2,7 +2,7 @@
 
 ghost use Rattle.std.specs.Prelude.{◌≡◌, ◌++◌, map, codes, Option, None, Some, IfOk, IfSome, OnErr, string_bytes, Ok, Err};
 ghost use Rattle.fc_base.specs.Devices.{Fetches};
-ghost use Rattle.fcdoc_core.specs.Plans.{Means, CountsStop, IsFound, top_of_plan};
+ghost use Rattle.fcdoc_core.specs.Plans.{Means, MeansFiles, MeansNames, MeansScript, CountsStop, IsFound, IsWithin, top_of_plan};
 ghost use Rattle.fcdoc_core.specs.Scripts.{script_of};
 ghost use Rattle.document_outcomes.specs.Typed.{no_features};
 ghost use Rattle.fcdoc_core.specs.OpenFaults.{HasLine, open_fault_text};
@@ -43,11 +43,13 @@ pub(crate) enum Found {
 /// What stands under a name, up to 16 MiB.
 fn find<S: Store>(alloc: Global, store: &mut S, name: &str) -> Result<Found, Stop>
     ensures told { IfOk result (λ found. IfSome (S.holds store.old) (λ held. IsFound held name.now found)) }
+    ensures within { IfOk result (λ found. IsWithin found) }
     ensures holds { S.holds store.new ≡ S.holds store.old }
     ensures count { CountsStop result (S.faults store.old) (S.faults store.new) }
 {
     match store.fetch(alloc, name, MOST_BYTES as u64) {
-        Ok(bytes) => Ok(Found::Bytes(bytes)),
+        Ok(bytes) if bytes.len() <= MOST_BYTES => Ok(Found::Bytes(bytes)),
+        Ok(_) => Ok(Found::TooLong),
         Err(FetchFault::TooLong) => Ok(Found::TooLong),
         Err(FetchFault::Missing) => Ok(Found::Nothing),
         Err(FetchFault::Failed) => Err(Stop::Store),
@@ -97,6 +99,7 @@ fn plan_of_session<S: Store>(
     script: &str,
 ) -> Result<Plan, Stop>
     ensures told { IfOk result (Means (S.holds store.old) (λ held. top_of_state no_features script.now (get held script.now) (Ok session))) }
+    ensures means { IfOk result (MeansScript script.now (Ok session)) }
     ensures holds { S.holds store.new ≡ S.holds store.old }
     ensures count { CountsStop result (S.faults store.old) (S.faults store.new) }
 {
@@ -116,6 +119,7 @@ fn plan_of_document<S: Store>(
     script: &str,
 ) -> Result<Plan, Stop>
     ensures told { IfOk result (Means (S.holds store.old) (λ held. top_of_state no_features script.now (get held script.now) (opened_of document.now))) }
+    ensures means { IfOk result (MeansScript script.now (opened_of document.now)) }
     ensures holds { S.holds store.new ≡ S.holds store.old }
     ensures count { CountsStop result (S.faults store.old) (S.faults store.new) }
 {
@@ -134,6 +138,7 @@ fn plan_of_names<S: Store>(
     script: &str,
 ) -> Result<Plan, Stop>
     ensures told { IfOk result (Means (S.holds store.old) (λ held. top_of_names no_features (record { document = document.now; script = script.now }) (get held document.now) (get held script.now))) }
+    ensures means { IfOk result (MeansNames (record { document = document.now; script = script.now })) }
     ensures holds { S.holds store.new ≡ S.holds store.old }
     ensures count { CountsStop result (S.faults store.old) (S.faults store.new) }
 {
@@ -153,6 +158,7 @@ pub(crate) fn plan_of_words<S: Store>(
     store: &mut S,
 ) -> Result<Plan, Stop>
     ensures told { IfOk result (Means (S.holds store.old) (top no_features (map string_bytes words.now))) }
+    ensures means { IfOk result (MeansFiles (names_of (map string_bytes words.now))) }
     ensures holds { S.holds store.new ≡ S.holds store.old }
     ensures count { CountsStop result (S.faults store.old) (S.faults store.new) }
 {

@@ -84,6 +84,7 @@ impl Session {
         ensures exact { MeetsStep self.old self.new (step no_features self.old command.now) result }
         ensures named { (r : Refusal) → result ≡ Err (Refused r) → IsNamed r }
         ensures at_least { OnOk result (min (steps.old + least_steps self.old command.now) (2 ^ 64 - 1) ≤ steps.new) }
+        ensures never_less { steps.old ≤ steps.new }
         ensures at_most { steps.new ≤ min (steps.old + most_steps self.old command.now) (2 ^ 64 - 1) }
     {
         let _count = steps.count();
@@ -116,6 +117,7 @@ impl Session {
         ensures exact { MeetsStep self.old self.new (recomputed no_features self.old) result }
         ensures named { (r : Refusal) → result ≡ Err (Refused r) → IsNamed r }
         ensures at_least { OnOk result (min (steps.old + length (expressions self.old.now)) (2 ^ 64 - 1) ≤ steps.new) }
+        ensures never_less { steps.old ≤ steps.new }
         ensures at_most { steps.new ≤ min (steps.old + nodes_of_document self.old.now) (2 ^ 64 - 1) }
     {
         self.tables.holds_var_sets();
