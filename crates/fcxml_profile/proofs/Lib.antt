@@ -1,0 +1,13 @@
+mod FrontLemmas
+mod Shorter
+mod AttributeLemmas
+mod ItemLemmas
+mod ValueLemmas
+mod NumberLemmas
+mod ReferenceLemmas
+mod RepeatedLemmas
+mod ElementLemmas
+mod ScanLemmas
+mod ReadingLemmas
+mod BalanceLemmas
+mod ScannerLemmas

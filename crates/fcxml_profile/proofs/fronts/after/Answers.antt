@@ -1,0 +1,5 @@
+use Rattle.fcxml_profile.proofs.FrontLemmas.{after-strips}
+use Rattle.fcxml_profile.proofs.fronts.after.Goals as goal
+
+pub returns : goal.returns
+returns c = after-strips c.args.literal.now c.args.text.now c.strip_prefix.result c.strip_prefix.ensures.cases

@@ -1,0 +1,6 @@
+use Rattle.std.proofs.Common.{lit<}
+use Rattle.fcxml_profile.proofs.FrontLemmas.{split_at-splits}
+use Rattle.fcxml_profile.proofs.references.split_at_semicolon.Goals as goal
+
+pub returns : goal.returns
+returns c = split_at-splits 59 c.args.text.now c.split_once.result (lit< tt) c.split_once.ensures.cases

@@ -1,0 +1,11 @@
+pub mod Fronts
+pub mod Items
+pub mod ToldAttributes
+pub mod Told
+pub mod Standing
+pub mod References
+pub mod ValueReading
+pub mod Faults
+pub mod Scanning
+pub mod Reading
+pub mod Answers
