@@ -1,5 +1,5 @@
--- Replying line by line gives the replies to all lines.
-use Rattle.std.proofs.Common.{◌≡◌, ℕ, suc, ◌+◌, ◌<◌, ◌≤◌, Bool, true, false, ◌||◌, List, ◌∷◌, ◌++◌, length, map, take, drop, drop-cons, get_or, add-one, Option, None, Some, Result, Ok, Err, refl, subst, sym, ap, ◌∙◌, append_assoc, arith, length-append, string_bytes, String, Global}
+-- Replying line by line gives the replies to all lines that are not skipped.
+use Rattle.std.proofs.Common.{◌≡◌, ℕ, suc, ◌+◌, ◌<◌, ◌≤◌, Bool, true, false, cond, not, ◌||◌, List, ◌∷◌, ◌++◌, length, map, take, drop, drop-cons, get_or, add-one, Option, Result, Ok, Err, refl, subst, sym, ap, ◌∙◌, append_assoc, arith, length-append, string_bytes, String, Global}
 use Rattle.std.specs.List.{flat_map, list_any}
 use Rattle.std.specs.Io.KnownBytes.{Appends}
 use Rattle.std.proofs.Math.Seq.{take-append-add}
@@ -14,13 +14,14 @@ use Rattle.fcdoc_core.specs.declared.reply.Reply.{Reply}
 use Rattle.fcdoc_core.specs.Machine.{State, step_line, answers, is_refusal}
 use Rattle.fcdoc_core.specs.Replies.{answer_text}
 use Rattle.fcdoc_core.specs.Plans.{Tells, Speaks}
+use Rattle.fcdoc_core.specs.Scripts.{is_skipped, with_replies}
 use Rattle.fcdoc_core.specs.Top.{replies_of, status_of}
 use Rattle.fcdoc_core.specs.declared.status.Status.{Status}
 use Rattle.fcdoc_core.proofs.DeliveryLemmas.{SoFar, so_far-start, appends_more}
 
--- the answers of the machine without features, and the state behind a line
+-- the answers of the machine without features to the lines that are not skipped, and the state behind a line
 abbrev pub answers_to : State → List (List ℕ) → List (Result Reply Refusal)
-answers_to s lines = answers no_features s lines
+answers_to s lines = answers no_features s (with_replies lines)
 
 abbrev pub state_behind : State → List ℕ → State
 state_behind s line = (step_line no_features s line).state
@@ -32,17 +33,25 @@ text_of_answers all = flat_map (λ piece. piece) (map answer_text all)
 lines_left : (lines : List (String Global)) (i : ℕ) (line : String Global) → i < length lines → line ≡ get_or lines i line → drop i lines ≡ line ∷ drop (i + 1) lines
 lines_left lines i line below is = rw add-one (drop-cons lines i line below ∙ ap (λ l. l ∷ drop (suc i) lines) (sym is))
 
+-- the answers that are left, at a line that is not skipped
+answers_left : (s : State) (lines : List (String Global)) (i : ℕ) (line : String Global) → i < length lines → line ≡ get_or lines i line → is_skipped (string_bytes line) ≡ false
+    → answers_to s (map string_bytes (drop i lines))
+    ≡ (step_line no_features s (string_bytes line)).answer ∷ answers_to (state_behind s (string_bytes line)) (map string_bytes (drop (i + 1) lines))
+answers_left s lines i line below is kept =
+    let rest : List (List ℕ) = with_replies (map string_bytes (drop (i + 1) lines)) in
+    ap (λ ls. answers_to s (map string_bytes ls)) (lines_left lines i line below is) ∙ ap (λ b. answers no_features s (cond (not b) (string_bytes line ∷ rest) rest)) kept
+
 -- what is left of the text, at a line of the script
-pub text_left : (s : State) (lines : List (String Global)) (i : ℕ) (line : String Global) → i < length lines → line ≡ get_or lines i line
+pub text_left : (s : State) (lines : List (String Global)) (i : ℕ) (line : String Global) → i < length lines → line ≡ get_or lines i line → is_skipped (string_bytes line) ≡ false
     → text_of_answers (answers_to s (map string_bytes (drop i lines)))
     ≡ answer_text (step_line no_features s (string_bytes line)).answer ++ text_of_answers (answers_to (state_behind s (string_bytes line)) (map string_bytes (drop (i + 1) lines)))
-text_left s lines i line below is = ap (λ ls. text_of_answers (answers_to s (map string_bytes ls))) (lines_left lines i line below is)
+text_left s lines i line below is kept = ap text_of_answers (answers_left s lines i line below is kept)
 
 -- and whether a refusal is left
-pub refusal_left : (s : State) (lines : List (String Global)) (i : ℕ) (line : String Global) → i < length lines → line ≡ get_or lines i line
+pub refusal_left : (s : State) (lines : List (String Global)) (i : ℕ) (line : String Global) → i < length lines → line ≡ get_or lines i line → is_skipped (string_bytes line) ≡ false
     → list_any is_refusal (answers_to s (map string_bytes (drop i lines)))
     ≡ (is_refusal (step_line no_features s (string_bytes line)).answer || list_any is_refusal (answers_to (state_behind s (string_bytes line)) (map string_bytes (drop (i + 1) lines))))
-refusal_left s lines i line below is = ap (λ ls. list_any is_refusal (answers_to s (map string_bytes ls))) (lines_left lines i line below is)
+refusal_left s lines i line below is kept = ap (list_any is_refusal) (answers_left s lines i line below is kept)
 
 -- a piece more was given
 pub so_far-piece : (all piece rest : List ℕ) (before mid after : Option (List ℕ)) → SoFar all (piece ++ rest) before mid → Appends mid after piece → SoFar all rest before after
@@ -97,13 +106,13 @@ replies_so_far-start s lines known count = record { so_far = so_far-start _ know
 
 module _ (s now : State) (lines : List (String Global)) (i : ℕ) (line : String Global) (text : List ℕ) (refused : Bool)
     (before mid after : Option (List ℕ)) (first old new : ℕ)
-    (below : i < length lines) (is : line ≡ get_or lines i line) (same : text ≡ string_bytes line) (r : RepliesSoFar s now lines i refused before mid first old) where
+    (below : i < length lines) (is : line ≡ get_or lines i line) (same : text ≡ string_bytes line) (kept : is_skipped text ≡ false) (r : RepliesSoFar s now lines i refused before mid first old) where
   left : SoFar (text_of_answers (answers_to s (map string_bytes lines))) (answer_text (step_line no_features now text).answer ++ text_of_answers (answers_to (state_behind now text) (map string_bytes (drop (i + 1) lines)))) before mid
-  left = rw same (rw (text_left now lines i line below is) at r.so_far)
+  left = rw same (rw (text_left now lines i line below is (rw same at kept)) at r.so_far)
 
   refusal_is_left : list_any is_refusal (answers_to now (map string_bytes (drop i lines)))
       ≡ (is_refusal (step_line no_features now text).answer || list_any is_refusal (answers_to (state_behind now text) (map string_bytes (drop (i + 1) lines))))
-  refusal_is_left = rw same (refusal_left now lines i line below is)
+  refusal_is_left = rw same (refusal_left now lines i line below is (rw same at kept))
 
   -- a reply more was written
   pub replies_so_far-goes_on : (is_one : Bool) → Tells (answer_text (step_line no_features now text).answer) (λ b. b ≡ is_refusal (step_line no_features now text).answer) (Ok is_one) mid after old new

@@ -1,5 +1,5 @@
 -- What a run writes, whatever its store tells: the meaning for some files.
-use Rattle.std.specs.Prelude.{◌≡◌, ℕ, List, Option, None, Some, Result}
+use Rattle.std.specs.Prelude.{ℕ, List, Option, None, Some}
 use Rattle.document_outcomes.specs.Full.{Meanings}
 use Rattle.document_outcomes.specs.Typed.{no_features}
 use Rattle.fcdoc_core.specs.declared.status.Status.{Status}

@@ -7,6 +7,7 @@ pub mod OpenFaults
 pub mod Opening
 pub mod Plans
 pub mod Replies
+pub mod ScriptFaults
 pub mod Scripts
 pub mod Sessions
 pub mod StepFaults

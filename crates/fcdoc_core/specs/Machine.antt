@@ -1,6 +1,6 @@
 -- What a script means: a machine that runs command by command on whole documents, and works
 -- everything out from the document alone.
-use Rattle.std.specs.Prelude.{◌≡◌, ℕ, List, [], ◌∷◌, length, Bool, true, false, if◌then◌else◌, Option, None, Some, Result, Ok, Err}
+use Rattle.std.specs.Prelude.{ℕ, List, [], ◌∷◌, length, Bool, true, false, if◌then◌else◌, Option, None, Some, Result, Ok, Err}
 use Rattle.std.specs.Result.{is_err}
 use Rattle.object_paths.specs.declared.path.Path.{Path}
 use Rattle.object_paths.specs.Slots.{Slot}
@@ -10,7 +10,6 @@ use Rattle.document_model.specs.Counts.{expressions, nodes_of_document}
 use Rattle.document_model.specs.Document.{Document}
 use Rattle.document_model.specs.Slots.{Rule, rule_of, own, bound, inherit, global, output}
 use Rattle.document_outcomes.specs.Called.{Entry, called, input_lists}
-use Rattle.document_outcomes.specs.Faults.{Fault, first_fault}
 use Rattle.document_outcomes.specs.Full.{Meanings, full}
 use Rattle.recompute.specs.Kept.{faults_of}
 use Rattle.doc_rules.specs.declared.refusal.Refusal.{Refusal}

@@ -6,28 +6,30 @@ use Rattle.document_outcomes.specs.Typed.{no_features}
 use Rattle.fcdoc_core.specs.declared.status.Status.{Status}
 use Rattle.fcdoc_core.specs.declared.status.Status.TheVariants as status
 use Rattle.fcdoc_core.specs.declared.plan.Plan.{Plan}
-use Rattle.fcdoc_core.specs.declared.plan.Plan.TheVariants.{Usage, Missing, DocumentRefused, ScriptRefused, Replies}
+use Rattle.fcdoc_core.specs.declared.plan.Plan.TheVariants.{Usage, Missing, DocumentTooLong, DocumentRefused, ScriptTooLong, ScriptRefused, Replies}
 use Rattle.fcdoc_core.specs.declared.stop.Stop.{Stop}
 use Rattle.fcdoc_core.specs.declared.stop.Stop.TheVariants.{Store, Sink, Memory}
 use Rattle.std.specs.FinMap.{get}
 use Rattle.fc_base.specs.Devices.{HoldsBeyond}
 use Rattle.fcdoc_core.specs.declared.plan.Found.{Found}
 use Rattle.fcdoc_core.specs.declared.plan.Found.TheVariants.{Bytes, TooLong, Nothing}
-use Rattle.fcdoc_core.specs.Scripts.{most_bytes}
+use Rattle.fcdoc_core.specs.Scripts.{most_bytes, with_replies}
 use Rattle.fcdoc_core.specs.Delivery.{GaveLess, GaveFront}
 use Rattle.fcdoc_core.specs.Machine.{State, answers}
 use Rattle.fcdoc_core.specs.Files.{Files}
 use Rattle.fcdoc_core.specs.Opening.{Unopened}
-use Rattle.fcdoc_core.specs.Top.{Top, text_of, one_piece, usage, missing, script_refused, replies_of, top_of_names, top_of_state}
+use Rattle.fcdoc_core.specs.Top.{Top, text_of, one_piece, usage, missing, document_too_long, script_too_long, replies_of, top_of_names, top_of_state}
 use Rattle.fcdoc_core.specs.Words.{Names}
 
 -- what is to be written: one line, or the replies to a script
 abbrev pub top_of_plan : Plan → Top
 top_of_plan Usage = usage
 top_of_plan (Missing name) = missing (string_bytes name)
+top_of_plan DocumentTooLong = document_too_long
 top_of_plan (DocumentRefused line) = one_piece status.DocumentRefused line.items
-top_of_plan ScriptRefused = script_refused
-top_of_plan (Replies session lines) = replies_of (answers no_features session lines)
+top_of_plan ScriptTooLong = script_too_long
+top_of_plan (ScriptRefused line) = one_piece status.ScriptRefused (string_bytes line)
+top_of_plan (Replies session script) = replies_of (answers no_features session (with_replies script))
 
 -- the plan is the meaning of the words, where the store tells what it holds
 abbrev pub Means : Option Held → (Held → Top) → Plan → Type 0

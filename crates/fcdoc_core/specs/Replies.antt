@@ -8,14 +8,17 @@ use Rattle.property_types.specs.declared.value.Value.TheVariants.{Number, Flag, 
 use Rattle.property_types.specs.declared.value.ValueFault.{ValueFault}
 use Rattle.property_types.specs.declared.value.ValueFault.TheVariants.{Range, DivideByZero, NotWhole, OutOfType, EmptyAggregate}
 use Rattle.property_types.specs.Values.{Outcome}
-use Rattle.document_outcomes.specs.Faults.{Fault}
 use Rattle.recompute.specs.declared.values.Report.{Report}
 use Rattle.doc_rules.specs.declared.refusal.Refusal.{Refusal}
 use Rattle.doc_rules.specs.Edits.{refusal_of_fault}
 use Rattle.doc_rules.specs.Refusals.{refusal_text}
 use Rattle.fcdoc_core.specs.declared.reply.Reply.{Reply}
 use Rattle.fcdoc_core.specs.declared.reply.Reply.TheVariants as reply
-use Rattle.fcdoc_core.specs.Opening.{Unopened, not_built, faulty}
+use Rattle.fcdoc_file.specs.Loading.{Unloaded, malformed, not_built}
+use Rattle.fcdoc_file.specs.declared.load_error.LoadCause as l
+use Rattle.fcdoc_file.specs.declared.load_error.LoadCause.TheVariants as cause
+use Rattle.fcdoc_core.specs.Opening.{Unopened, unloaded, faulty}
+use Rattle.fcdoc_core.specs.Scripts.{Unreadable, not_utf8, line_too_long, too_many_lines}
 
 -- ---- values
 
@@ -75,7 +78,29 @@ abbrev pub answer_text : Result Reply Refusal → List ℕ
 answer_text (Ok r) = reply_text r
 answer_text (Err r) = refusal_text r ++ codes "\n"
 
+-- the name of a cause
+abbrev pub cause_text : l.LoadCause → List ℕ
+cause_text cause.NotUtf8 = codes "NotUtf8"
+cause_text cause.Character = codes "Character"
+cause_text cause.Truncated = codes "Truncated"
+cause_text cause.Declaration = codes "Declaration"
+cause_text cause.Unbalanced = codes "Unbalanced"
+cause_text cause.Deep = codes "Deep"
+cause_text cause.RepeatedAttribute = codes "RepeatedAttribute"
+cause_text cause.Syntax = codes "Syntax"
+
+-- the line for bytes that are no document
+abbrev pub unloaded_text : Unloaded → List ℕ
+unloaded_text not_built = codes "document refused NotBuilt\n"
+unloaded_text (malformed f) = codes "document refused " ++ cause_text f.cause ++ codes " at " ++ decimal f.place ++ codes "\n"
+
 -- the line for a document that is not opened
 abbrev pub unopened_text : Unopened → List ℕ
-unopened_text not_built = codes "document refused NotBuilt\n"
+unopened_text (unloaded cause) = unloaded_text cause
 unopened_text (faulty f) = codes "document " ++ refusal_text (refusal_of_fault f) ++ codes "\n"
+
+-- the line for bytes that are no script
+abbrev pub unreadable_text : Unreadable → List ℕ
+unreadable_text (not_utf8 number) = codes "script refused NotUtf8 " ++ decimal number ++ codes "\n"
+unreadable_text (line_too_long number) = codes "script refused LineTooLong " ++ decimal number ++ codes "\n"
+unreadable_text too_many_lines = codes "script refused TooManyLines\n"

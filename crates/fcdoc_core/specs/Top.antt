@@ -8,11 +8,11 @@ use Rattle.doc_rules.specs.declared.refusal.Refusal.{Refusal}
 use Rattle.fcdoc_core.specs.declared.status.Status.{Status}
 use Rattle.fcdoc_core.specs.declared.status.Status.TheVariants.{Done, SomeRefused, Usage, Missing, DocumentRefused, ScriptRefused}
 use Rattle.fcdoc_core.specs.Words.{Names, names_of}
-use Rattle.fcdoc_core.specs.Scripts.{most_bytes, script_of}
+use Rattle.fcdoc_core.specs.Scripts.{Unreadable, most_bytes, script_of, with_replies}
 use Rattle.fcdoc_core.specs.declared.reply.Reply.{Reply}
 use Rattle.fcdoc_core.specs.Machine.{State, answers, is_refusal}
-use Rattle.fcdoc_core.specs.Opening.{Unopened, not_built, opened_of}
-use Rattle.fcdoc_core.specs.Replies.{answer_text, unopened_text}
+use Rattle.fcdoc_core.specs.Opening.{Unopened, opened_of}
+use Rattle.fcdoc_core.specs.Replies.{answer_text, unopened_text, unreadable_text}
 
 -- What a run writes, in pieces that are offered one after another; its status; and the name and bytes
 -- that it puts into the store, if any.
@@ -38,8 +38,14 @@ missing name = one_piece Missing (codes "missing " ++ (name ++ codes "\n"))
 abbrev pub document_refused : Unopened → Top
 document_refused cause = one_piece DocumentRefused (unopened_text cause)
 
-abbrev pub script_refused : Top
-script_refused = one_piece ScriptRefused (codes "script refused NotBuilt\n")
+abbrev pub document_too_long : Top
+document_too_long = one_piece DocumentRefused (codes "document refused TooLong\n")
+
+abbrev pub script_refused : Unreadable → Top
+script_refused cause = one_piece ScriptRefused (unreadable_text cause)
+
+abbrev pub script_too_long : Top
+script_too_long = one_piece ScriptRefused (codes "script refused TooLong\n")
 
 -- some reply is a refusal, or none is
 abbrev pub status_of : List (Result Reply Refusal) → Status
@@ -49,25 +55,29 @@ status_of replies = if list_any is_refusal replies then SomeRefused else Done
 abbrev pub replies_of : List (Result Reply Refusal) → Top
 replies_of replies = record { pieces = map answer_text replies; status = status_of replies; put = None }
 
--- a document that was opened, and the lines of the script, or none
-abbrev pub top_of_lines : Meanings → State → Option (List (List ℕ)) → Top
-top_of_lines m s None = script_refused
-top_of_lines m s (Some lines) = replies_of (answers m s lines)
+-- a document that was opened, and all lines of the script, or why there are none
+abbrev pub top_of_lines : Meanings → State → Result (List (List ℕ)) Unreadable → Top
+top_of_lines m s (Err cause) = script_refused cause
+top_of_lines m s (Ok all) = replies_of (answers m s (with_replies all))
+
+-- a document that was opened, and the bytes of the script
+abbrev pub top_of_script : Meanings → State → List ℕ → Top
+top_of_script m s bytes = if nat_le (length bytes) most_bytes then top_of_lines m s (script_of bytes) else script_too_long
 
 -- what stands under the script's name, and the document that was opened, or why there is none
 abbrev pub top_of_state : Meanings → List ℕ → Option (List ℕ) → Result State Unopened → Top
 top_of_state m script found (Err cause) = document_refused cause
 top_of_state m script None (Ok s) = missing script
-top_of_state m script (Some bytes) (Ok s) = top_of_lines m s (script_of bytes)
+top_of_state m script (Some bytes) (Ok s) = top_of_script m s bytes
 
--- the document that the bytes are the text of, where they are within the limit
-abbrev pub opened_within : List ℕ → Result State Unopened
-opened_within bytes = if nat_le (length bytes) most_bytes then opened_of bytes else Err not_built
+-- what stands under the script's name, and the bytes of the document
+abbrev pub top_of_document : Meanings → List ℕ → Option (List ℕ) → List ℕ → Top
+top_of_document m script found bytes = if nat_le (length bytes) most_bytes then top_of_state m script found (opened_of bytes) else document_too_long
 
 -- what stands under the two names
 abbrev pub top_of_names : Meanings → Names → Option (List ℕ) → Option (List ℕ) → Top
 top_of_names m names None script = missing names.document
-top_of_names m names (Some bytes) script = top_of_state m names.script script (opened_within bytes)
+top_of_names m names (Some bytes) script = top_of_document m names.script script bytes
 
 abbrev pub top_of_words : Meanings → Option Names → Held → Top
 top_of_words m None h = usage

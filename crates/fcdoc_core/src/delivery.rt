@@ -7,10 +7,12 @@ ghost use Rattle.fcdoc_core.specs.Delivery.{Delivers};
 ghost use Rattle.fcdoc_core.specs.Machine.{answers, is_refusal, step_line};
 ghost use Rattle.fcdoc_core.specs.Replies.{answer_text};
 ghost use Rattle.fcdoc_core.specs.Plans.{Tells, Speaks, top_of_plan};
+ghost use Rattle.fcdoc_core.specs.Scripts.{with_replies};
 ghost use Rattle.fcdoc_core.specs.Top.{one_piece, missing, replies_of};
 
 use crate::answering::answer_to;
 use crate::plan::Plan;
+use crate::script::is_skipped;
 use crate::session::Session;
 use crate::status::Status;
 use crate::stop::Stop;
@@ -64,18 +66,22 @@ fn reply_to<K: Sink>(
     }
 }
 
-/// Runs the lines and writes the replies, and answers whether one is a refusal.
+/// Runs the lines that are not skipped and writes the replies, and answers whether one is a refusal.
 fn reply_to_all<K: Sink>(
     alloc: Global,
     session: &mut Session,
     lines: &[String],
     out: &mut K,
 ) -> Result<Status, Stop>
-    ensures { Speaks (replies_of (answers no_features session.old (map string_bytes lines.now))) result (K.written out.old) (K.written out.new) (K.faults out.old) (K.faults out.new) }
+    ensures { Speaks (replies_of (answers no_features session.old (with_replies (map string_bytes lines.now)))) result (K.written out.old) (K.written out.new) (K.faults out.old) (K.faults out.new) }
 {
     let mut refused = false;
     for line in lines {
-        match reply_to(alloc, session, line.as_str(), out) {
+        let line = line.as_str();
+        if is_skipped(line) {
+            continue;
+        }
+        match reply_to(alloc, session, line, out) {
             Ok(is_refusal) => refused |= is_refusal,
             Err(stop) => return Err(stop),
         }
@@ -114,8 +120,12 @@ pub(crate) fn deliver<K: Sink>(alloc: Global, plan: Plan, out: &mut K) -> Result
     match plan {
         Plan::Usage => say_line(out, USAGE.as_bytes(), Status::Usage),
         Plan::Missing(name) => say_missing(alloc, out, name.as_str()),
+        Plan::DocumentTooLong => {
+            say_line(out, b"document refused TooLong\n", Status::DocumentRefused)
+        }
         Plan::DocumentRefused(line) => say_line(out, line.as_slice(), Status::DocumentRefused),
-        Plan::ScriptRefused => say_line(out, b"script refused NotBuilt\n", Status::ScriptRefused),
+        Plan::ScriptTooLong => say_line(out, b"script refused TooLong\n", Status::ScriptRefused),
+        Plan::ScriptRefused(line) => say_line(out, line.as_bytes(), Status::ScriptRefused),
         Plan::Replies(mut session, script) => {
             reply_to_all(alloc, &mut session, script.lines(), out)
         }

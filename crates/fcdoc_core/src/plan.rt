@@ -1,23 +1,28 @@
 //! Finds out what a run is to write: the words, the document and the script.
 
-ghost use Rattle.std.specs.Prelude.{◌≡◌, ◌++◌, map, codes, Option, None, Some, IfOk, IfSome, OnErr, string_bytes, Ok, Err};
+ghost use Rattle.std.specs.Prelude.{◌≡◌, ◌++◌, map, codes, Option, None, Some, IfOk, IfSome, IsSome, OnErr, string_bytes, Ok, Err};
 ghost use Rattle.fc_base.specs.Devices.{Fetches};
 ghost use Rattle.fcdoc_core.specs.Plans.{Means, MeansFiles, MeansNames, MeansScript, CountsStop, IsFound, IsWithin, top_of_plan};
+ghost use Rattle.fcdoc_core.specs.ScriptFaults.{cause_told};
 ghost use Rattle.fcdoc_core.specs.Scripts.{script_of};
 ghost use Rattle.document_outcomes.specs.Typed.{no_features};
 ghost use Rattle.fcdoc_core.specs.OpenFaults.{HasLine, open_fault_text};
 ghost use Rattle.fcdoc_core.specs.declared.status.Status.TheVariants.{DocumentRefused};
 ghost use Rattle.fcdoc_core.specs.Opening.{opened_of};
-ghost use Rattle.fcdoc_core.specs.Top.{missing, one_piece, top, top_of_lines, top_of_names, top_of_state};
+ghost use Rattle.fcdoc_core.specs.Top.{missing, one_piece, script_refused, top, top_of_lines, top_of_names, top_of_state};
 ghost use Rattle.std.specs.FinMap.{get};
 ghost use Rattle.fcdoc_core.specs.Words.{names_of};
 
 use crate::opening::OpenFault;
-use crate::script::{MOST_BYTES, Script};
+use crate::script::Script;
+use crate::script_fault::ScriptFault;
 use crate::session::Session;
 use crate::stop::Stop;
 use fc_base::{FetchFault, Store};
 use std::alloc::{AllocError, Global};
+
+/// The most bytes that a document or a script of a run has: 16 MiB.
+const MOST_BYTES: usize = 16_777_216;
 
 /// What a run is to write.
 #[derive(Drop)]
@@ -25,9 +30,12 @@ pub(crate) enum Plan {
     Usage,
     /// The store holds no such name.
     Missing(String),
+    DocumentTooLong,
     /// The document is refused, with this line.
     DocumentRefused(Vec<u8>),
-    ScriptRefused,
+    ScriptTooLong,
+    /// The script is refused, with this line.
+    ScriptRefused(String),
     /// The replies of a session to the lines of a script.
     Replies(Session, Script),
 }
@@ -68,8 +76,9 @@ fn missing(alloc: Global, name: &str) -> Result<Plan, Stop>
 }
 
 /// The line of a document that is not opened.
-fn refused(alloc: Global, fault: &OpenFault) -> Result<Plan, Stop>
+fn document_refused(alloc: Global, fault: &OpenFault) -> Result<Plan, Stop>
     requires { HasLine fault.now }
+    ensures line { HasLine fault.now }
     ensures plan { IfOk result (λ plan. top_of_plan plan ≡ one_piece DocumentRefused (open_fault_text fault.now)) }
     ensures stop { OnErr result (result ≡ Err Stop.Memory) }
 {
@@ -79,15 +88,27 @@ fn refused(alloc: Global, fault: &OpenFault) -> Result<Plan, Stop>
     }
 }
 
-/// What follows for a session and the bytes of a script.
+/// The line of a script that is not read.
+fn script_refused(alloc: Global, fault: &ScriptFault) -> Result<Plan, Stop>
+    requires { IsSome (cause_told fault.now) }
+    ensures plan { IfOk result (λ plan. IfSome (cause_told fault.now) (λ cause. top_of_plan plan ≡ script_refused cause)) }
+    ensures stop { OnErr result (result ≡ Err Stop.Memory) }
+{
+    match fault.write(alloc) {
+        Ok(line) => Ok(Plan::ScriptRefused(line)),
+        Err(_) => Err(Stop::Memory),
+    }
+}
+
+/// What follows for a session and the bytes of a script, within the limit.
 fn plan_of_script(alloc: Global, session: Session, bytes: &[u8]) -> Result<Plan, Stop>
     ensures plan { IfOk result (λ plan. top_of_plan plan ≡ top_of_lines no_features session (script_of bytes.now)) }
     ensures stop { OnErr result (result ≡ Err Stop.Memory) }
 {
     match Script::read(alloc, bytes) {
-        Ok(Some(script)) => Ok(Plan::Replies(session, script)),
-        Ok(None) => Ok(Plan::ScriptRefused),
-        Err(_) => Err(Stop::Memory),
+        Ok(script) => Ok(Plan::Replies(session, script)),
+        Err(ScriptFault::Memory(_)) => Err(Stop::Memory),
+        Err(fault) => script_refused(alloc, &fault),
     }
 }
 
@@ -105,7 +126,7 @@ fn plan_of_session<S: Store>(
 {
     match find(alloc, store, script) {
         Ok(Found::Bytes(bytes)) => plan_of_script(alloc, session, &bytes),
-        Ok(Found::TooLong) => Ok(Plan::ScriptRefused),
+        Ok(Found::TooLong) => Ok(Plan::ScriptTooLong),
         Ok(Found::Nothing) => missing(alloc, script),
         Err(stop) => Err(stop),
     }
@@ -126,7 +147,7 @@ fn plan_of_document<S: Store>(
     match Session::open(alloc, document) {
         Ok(session) => plan_of_session(alloc, store, session, script),
         Err(OpenFault::Memory(_)) => Err(Stop::Memory),
-        Err(fault) => refused(alloc, &fault),
+        Err(fault) => document_refused(alloc, &fault),
     }
 }
 
@@ -144,7 +165,7 @@ fn plan_of_names<S: Store>(
 {
     match find(alloc, store, document) {
         Ok(Found::Bytes(bytes)) => plan_of_document(alloc, store, &bytes, script),
-        Ok(Found::TooLong) => refused(alloc, &OpenFault::NotBuilt),
+        Ok(Found::TooLong) => Ok(Plan::DocumentTooLong),
         Ok(Found::Nothing) => missing(alloc, document),
         Err(stop) => Err(stop),
     }

@@ -1,27 +1,27 @@
 //! The lines of a script.
 
-ghost use Rattle.std.specs.Prelude.{◌≡◌, ◌==◌, map, option_map, length, nat_le, if◌then◌else◌, Some, None, IfOk, string_bytes};
-ghost use Rattle.std.specs.List.{list_all};
-ghost use Rattle.std.specs.Str.{is_utf8};
-ghost use Rattle.std.specs.Str.Lines.{lines};
-ghost use Rattle.fcdoc_core.specs.Scripts.{is_skipped, is_comment, are_within_limits, with_replies, script_of};
+ghost use Rattle.std.specs.Prelude.{◌≡◌, ◌==◌, ◌∷◌, [], ◌<◌, length, map, IfSome, MatchResult, None, slice_get, string_bytes};
+ghost use Rattle.std.specs.List.{list_all, position};
+ghost use Rattle.std.specs.Option.{option_copied, option_map_or};
+ghost use Rattle.std.specs.Str.Lines.{lines, strip_carriage_return};
+ghost use Rattle.fcdoc_core.specs.Scripts.{is_comment, is_skipped, line_fault, script_of};
+ghost use Rattle.fcdoc_core.specs.ScriptFaults.{ReadsScript, cause_told};
 
-use std::alloc::{AllocError, Global};
+use crate::script_fault::ScriptFault;
+use std::alloc::Global;
 use std::marker::Model;
 use std::str;
 
-/// The most bytes that a document or a script has: 16 MiB.
-pub(crate) const MOST_BYTES: usize = 16_777_216;
-
 /// The most lines that a script has.
-const MOST_LINES: usize = 100_000;
+const MOST_LINES: u64 = 100_000;
 
-/// The most bytes that a line has.
+/// The most bytes that a line has, without its end.
 const MOST_LINE_BYTES: usize = 4096;
 
-/// The lines of a script that give replies, in order.
+/// The lines of a script, skipped ones among them: what stands before each LF, without one CR right
+/// before it, and what stands behind the last LF, if anything does. It is seen as the list of them.
 #[derive(Debug, Drop)]
-pub(crate) struct Script {
+pub struct Script {
     lines: Vec<String>,
 }
 
@@ -34,7 +34,7 @@ impl Model for Script {
 }
 
 /// A line that gives no reply: an empty one, one of spaces, or a comment.
-fn is_skipped(line: &str) -> bool
+pub(crate) fn is_skipped(line: &str) -> bool
     ensures { result ≡ is_skipped line.now }
 {
     let bytes = line.as_bytes();
@@ -56,67 +56,81 @@ fn is_comment(bytes: &[u8]) -> bool
     }
 }
 
-fn lines_of<'a>(alloc: Global, text: &'a str) -> Result<Vec<&'a str>, AllocError>
-    ensures { IfOk result (λ v. map (λ l. l.now) v.items ≡ lines text.now) }
+/// What stands before the CR at the end, or all where there is none.
+fn before_carriage_return(line: &[u8]) -> &[u8]
+    ensures { result.now ≡ strip_carriage_return line.now }
 {
-    text.lines().collect(alloc)
+    line.strip_suffix(b"\r").unwrap_or(line)
 }
 
-fn with_replies(alloc: Global, lines: &[&str]) -> Result<Vec<String>, AllocError>
-    ensures { IfOk result (λ v. map string_bytes v.items ≡ with_replies (map (λ l. l.now) lines.now)) }
+/// The place of the first LF.
+fn first_line_feed(bytes: &[u8]) -> Option<usize>
+    ensures { result ≡ position (λ c. c == 10) bytes.now }
 {
-    let mut all = Vec::new(alloc);
-    for line in lines {
-        if !is_skipped(line) {
-            all.push(String::from_str(alloc, line)?)?;
-        }
+    bytes.iter().position(|byte| *byte == b'\n')
+}
+
+/// The first line, without its end, and what follows it.
+fn first_line(bytes: &[u8]) -> Option<(&[u8], &[u8])>
+    ensures cut { lines bytes.now ≡ option_map_or (λ x. x.0.now ∷ lines x.1.now) result [] }
+    ensures shorter { IfSome result (λ x. length x.1.now < length bytes.now) }
+{
+    if bytes.is_empty() {
+        return None;
     }
-    Ok(all)
-}
-
-/// The bytes as text, where they are UTF-8.
-fn text_of(bytes: &[u8]) -> Option<&str>
-    ensures { option_map (λ t. t.now) result ≡ (if is_utf8 bytes.now then Some bytes.now else None) }
-{
-    str::from_utf8(bytes).ok()
-}
-
-fn are_within_limits(lines: &[&str]) -> bool
-    ensures { result ≡ are_within_limits (map (λ l. l.now) lines.now) }
-{
-    lines.len() <= MOST_LINES && are_short(lines)
-}
-
-fn are_short(lines: &[&str]) -> bool
-    ensures { result ≡ list_all (λ line. nat_le (length line) 4096) (map (λ l. l.now) lines.now) }
-{
-    let mut short = true;
-    for line in lines {
-        short &= line.len() <= MOST_LINE_BYTES;
+    match first_line_feed(bytes) {
+        Some(end) => Some((before_carriage_return(&bytes[..end]), &bytes[end + 1..])),
+        None => Some((bytes, &[])),
     }
-    short
+}
+
+/// The line with this number as text.
+fn text_of(line: &[u8], number: u64) -> Result<&str, ScriptFault>
+    ensures { MatchResult result (λ text. (text.now ≡ line.now) × (line_fault number line.now ≡ None)) (λ fault. line_fault number line.now ≡ cause_told fault) }
+{
+    let Ok(text) = str::from_utf8(line) else {
+        return Err(ScriptFault::NotUtf8(number));
+    };
+    if line.len() > MOST_LINE_BYTES {
+        return Err(ScriptFault::LineTooLong(number));
+    }
+    Ok(text)
 }
 
 impl Script {
-    /// The script of the bytes, where they are text within the limits.
-    pub(crate) fn read(alloc: Global, bytes: &[u8]) -> Result<Option<Script>, AllocError>
-        ensures { IfOk result (λ s. s ≡ script_of bytes.now) }
+    /// Reads the text of a script, of any size. NotUtf8 and LineTooLong have the number, counted from
+    /// 1, of the first line that is not UTF-8 or has more than 4,096 bytes without its end; on one
+    /// line NotUtf8 comes first. TooManyLines comes where no line is so, and there are more than
+    /// 100,000.
+    pub fn read(alloc: Global, bytes: &[u8]) -> Result<Script, ScriptFault>
+        ensures { ReadsScript (script_of bytes.now) result }
     {
-        if bytes.len() > MOST_BYTES {
-            return Ok(None);
+        let mut lines = Vec::new(alloc);
+        let mut number = 0;
+        let mut rest = bytes;
+        while let Some((line, behind)) = first_line(rest) {
+            number += 1;
+            let text = text_of(line, number)?;
+            if number <= MOST_LINES {
+                lines.push(String::from_str(alloc, text)?)?;
+            }
+            rest = behind;
         }
-        let Some(text) = text_of(bytes) else {
-            return Ok(None);
-        };
-        let lines = lines_of(alloc, text)?;
-        if !are_within_limits(&lines) {
-            return Ok(None);
+        if number > MOST_LINES {
+            return Err(ScriptFault::TooManyLines);
         }
-        let lines = with_replies(alloc, &lines)?;
-        Ok(Some(Script { lines }))
+        Ok(Script { lines })
     }
 
-    /// The lines that give replies.
+    /// The line at that place, counted from 0 with the skipped ones, without its end. There is none
+    /// exactly past the last.
+    pub fn line_at(&self, place: u64) -> Option<&str>
+        ensures { option_copied result ≡ slice_get self.now place }
+    {
+        self.lines.get(place as usize).map(|line| line.as_str())
+    }
+
+    /// All lines.
     pub(crate) fn lines(&self) -> &[String]
         ensures { map string_bytes result.now ≡ self.now }
     {

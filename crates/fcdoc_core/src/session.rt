@@ -54,8 +54,9 @@ impl Model for Session {
 }
 
 impl Session {
-    /// Opens the document that the bytes are the text of. NotBuilt comes exactly where they are the
-    /// text of none, and Doc exactly where the document has a fault, which is its first.
+    /// Opens the document that the bytes are the text of. Of bytes that are not well-formed Load tells
+    /// what is wrong first; NotBuilt comes exactly for others that are the text of none, and Doc exactly
+    /// where the document has a fault, which is its first.
     pub fn open(alloc: Global, bytes: &[u8]) -> Result<Session, OpenFault>
         ensures exact { Opens (opened_of bytes.now) result }
         ensures named { (fault : DocFault) → result ≡ Err (Doc fault) → IsTrue (is_refusal_number fault.number) }
@@ -63,6 +64,7 @@ impl Session {
         faults_are_named();
         let tables = match load(alloc, bytes) {
             Ok(tables) => tables,
+            Err(LoadError::Load(fault)) => return Err(OpenFault::Load(fault)),
             Err(LoadError::NotBuilt) => return Err(OpenFault::NotBuilt),
             Err(LoadError::Memory(error)) => return Err(OpenFault::Memory(error)),
         };

@@ -13,8 +13,8 @@ use Rattle.std.proofs.lemmas.Slice.Eq.{bytes_eq-Decides}
 use Rattle.fc_base.specs.Texts.{is_name}
 use Rattle.property_types.specs.Reserved.{are_distinct}
 use Rattle.document_model.specs.Document.{Document}
-use Rattle.fcdoc_file.specs.declared.fault.LoadError.{LoadError}
-use Rattle.fcdoc_file.specs.declared.fault.LoadError.TheVariants.{NotBuilt, Memory}
+use Rattle.fcdoc_file.specs.declared.fault.FormFault.{FormFault}
+use Rattle.fcdoc_file.specs.declared.fault.FormFault.TheVariants.{NotBuilt, Memory}
 use Rattle.fcdoc_file.proofs.ReadingLemmas.{Fails}
 use Rattle.fcdoc_file.specs.Cursor.{◌>>=◌, after, quoted, numeral, each, numbers}
 use Rattle.fcdoc_file.specs.FirstForm.{FirstObject, names_text, object_text, content_text, document_start, first_text, empty_text, has_own_names, is_within_limits, stands_together, IsFirstObject, IsFirstForm}
@@ -308,7 +308,7 @@ pub reads_one : (bytes : List ℕ) (d e : Document) → ReadsFirst bytes d → R
 reads_one bytes d e first second = some_is d e (sym (document_of-text bytes d first) ∙ document_of-text bytes e second)
 
 -- where nothing was read the bytes are the text of no document
-pub refused : {A : Type 0} (bytes : List ℕ) (e : LoadError) → Fails e (first_form_of bytes) → ◌≡◌ {A = Result A LoadError} (Err e) (Err NotBuilt) → (d : Document) → ReadsFirst bytes d → ⊥
+pub refused : {A : Type 0} (bytes : List ℕ) (e : FormFault) → Fails e (first_form_of bytes) → ◌≡◌ {A = Result A FormFault} (Err e) (Err NotBuilt) → (d : Document) → ReadsFirst bytes d → ⊥
 refused bytes NotBuilt fails same d reads =
     let there = document_of-text bytes d reads in
     let nothing : document_of bytes ≡ None = ap (option_map first_document) fails in

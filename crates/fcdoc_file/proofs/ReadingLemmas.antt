@@ -1,8 +1,8 @@
 -- Reading a list step by step, as a loop does.
 use Rattle.std.proofs.Common.{◌≡◌, ℕ, suc, ◌+◌, ◌-◌, ◌<◌, List, [], ◌∷◌, ◌++◌, length, drop, drop-cons, get_or, add-one, Option, None, Some, refl, sym, ap, ◌∙◌, append_assoc, append-nil, arith}
 use Rattle.std.specs.Prelude.{⊤}
-use Rattle.fcdoc_file.specs.declared.fault.LoadError.{LoadError}
-use Rattle.fcdoc_file.specs.declared.fault.LoadError.TheVariants.{NotBuilt, Memory}
+use Rattle.fcdoc_file.specs.declared.fault.FormFault.{FormFault}
+use Rattle.fcdoc_file.specs.declared.fault.FormFault.TheVariants.{NotBuilt, Memory}
 use Rattle.fcdoc_file.specs.Cursor.{◌>>=◌, each, numbers}
 
 -- what was read so far, before what is read next
@@ -11,7 +11,7 @@ with_front front None = None
 with_front front (Some x) = Some (front ++ x.0, x.1)
 
 -- NotBuilt says that there is nothing
-abbrev pub Fails : {Y : Type 0} → LoadError → Option Y → Type 0
+abbrev pub Fails : {Y : Type 0} → FormFault → Option Y → Type 0
 Fails NotBuilt there = there ≡ None
 Fails (Memory e) there = ⊤
 
@@ -27,7 +27,7 @@ module _ {K A : Type 0} (step : K → List ℕ → Option (A × List ℕ)) where
   goes_on front key keys text a rest all found so_far = sym (regroup front a (each step keys rest)) ∙ rw found at so_far
 
   -- nothing more can be read
-  pub ends : (e : LoadError) (front : List A) (key : K) (keys : List K) (text : List ℕ) (all : Option (List A × List ℕ))
+  pub ends : (e : FormFault) (front : List A) (key : K) (keys : List K) (text : List ℕ) (all : Option (List A × List ℕ))
       → Fails e (step key text) → with_front front (each step (key ∷ keys) text) ≡ all → Fails e all
   unfolding each
   ends NotBuilt front key keys text all fails so_far = sym so_far ∙ rw fails refl

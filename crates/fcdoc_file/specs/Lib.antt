@@ -1,7 +1,9 @@
 pub mod Answers
+pub mod Causes
 pub mod Cursor
 pub mod Filled
 pub mod FirstDocument
 pub mod FirstForm
+pub mod Loading
 pub mod Reading
 pub mod Rows

@@ -1,13 +1,13 @@
 ghost use Rattle.std.specs.Prelude.{◌≡◌, alloc_error};
-ghost use Rattle.fcdoc_file.specs.declared.fault.LoadError.TheVariants.{Memory};
+ghost use Rattle.fcdoc_file.specs.declared.fault.FormFault.TheVariants.{Memory};
 
 use fc_base::NameFault;
 use std::alloc::{AllocError, AllocFailed};
 use thiserror::Error;
 
-/// Why bytes were not read as a document.
+/// Why bytes were not read as a document of the first form.
 #[derive(Debug, Drop, Error)]
-pub enum LoadError {
+pub(crate) enum FormFault {
     /// They are not the text of a document of the first form.
     #[error("not a document of the first form")]
     NotBuilt,
@@ -15,31 +15,31 @@ pub enum LoadError {
     Memory(AllocError),
 }
 
-impl From<AllocError> for LoadError {
+impl From<AllocError> for FormFault {
     ghost from_gives = { λ cause e. e ≡ Memory cause };
 
-    fn from(cause: AllocError) -> LoadError {
-        LoadError::Memory(cause)
+    fn from(cause: AllocError) -> FormFault {
+        FormFault::Memory(cause)
     }
 }
 
-impl From<NameFault> for LoadError {
-    ghost use Rattle.fcdoc_file.specs.Answers.{load_error_of};
+impl From<NameFault> for FormFault {
+    ghost use Rattle.fcdoc_file.specs.Answers.{form_fault_of};
 
-    ghost from_gives = { λ fault e. e ≡ load_error_of fault };
+    ghost from_gives = { λ fault e. e ≡ form_fault_of fault };
 
-    fn from(fault: NameFault) -> LoadError {
+    fn from(fault: NameFault) -> FormFault {
         match fault {
-            NameFault::BadName => LoadError::NotBuilt,
-            NameFault::Memory(cause) => LoadError::Memory(cause),
+            NameFault::BadName => FormFault::NotBuilt,
+            NameFault::Memory(cause) => FormFault::Memory(cause),
         }
     }
 }
 
-impl<T: Drop> From<AllocFailed<T>> for LoadError {
+impl<T: Drop> From<AllocFailed<T>> for FormFault {
     ghost from_gives = { λ _ e. e ≡ Memory alloc_error };
 
-    fn from(_cause: AllocFailed<T>) -> LoadError {
-        LoadError::Memory(AllocError)
+    fn from(_cause: AllocFailed<T>) -> FormFault {
+        FormFault::Memory(AllocError)
     }
 }

@@ -8,7 +8,7 @@ ghost use Rattle.fcdoc_file.specs.FirstDocument.{ReadsFirst};
 ghost use Rattle.fcdoc_file.specs.Reading.{first_form_of, document_of};
 ghost use Rattle.fcdoc_file.specs.Rows.{object_of};
 
-use crate::fault::LoadError;
+use crate::fault::FormFault;
 use crate::filling::tables_of;
 use crate::reading::read_content;
 use crate::standing::stand_together;
@@ -32,27 +32,27 @@ fn is_without_objects(bytes: &[u8]) -> bool
 
 /// The objects of the document of the first form that the bytes are the text of.
 #[tactic(auto, unfolding(crate::specs::Reading::first_form_of))]
-fn load_objects(alloc: Global, bytes: &[u8]) -> Result<Vec<VarSet>, LoadError>
+fn load_objects(alloc: Global, bytes: &[u8]) -> Result<Vec<VarSet>, FormFault>
     ensures { Gives (λ v. map object_of v.items) result (first_form_of bytes.now) }
 {
     if is_without_objects(bytes) {
         return Ok(Vec::new(alloc));
     }
     let Ok(text) = str::from_utf8(bytes) else {
-        return Err(LoadError::NotBuilt);
+        return Err(FormFault::NotBuilt);
     };
     let objects = read_content(alloc, text)?;
     if !stand_together(alloc, &objects)? {
-        return Err(LoadError::NotBuilt);
+        return Err(FormFault::NotBuilt);
     }
     Ok(objects)
 }
 
 /// Reads a document of the first form. NotBuilt comes exactly where the bytes are the text of none.
-pub fn load(alloc: Global, bytes: &[u8]) -> Result<Tables, LoadError>
+pub(crate) fn load_first(alloc: Global, bytes: &[u8]) -> Result<Tables, FormFault>
     ensures exact { Gives (λ (t : Numbered). t.document) result (document_of bytes.now) }
     ensures found { IfOk result (λ t. ReadsFirst bytes.now t.document) }
-    ensures not_built { IsErrOf result LoadError.NotBuilt → (d : Document) → ReadsFirst bytes.now d → ⊥ }
+    ensures not_built { IsErrOf result FormFault.NotBuilt → (d : Document) → ReadsFirst bytes.now d → ⊥ }
 {
     let objects = load_objects(alloc, bytes)?;
     Ok(tables_of(alloc, &objects)?)

@@ -7,7 +7,7 @@ ghost use Rattle.fcdoc_file.specs.Reading.{name_at, count_at, amount_of, quoted_
 ghost use Rattle.fcdoc_file.specs.Rows.{property_of, object_of};
 
 use crate::cursor::{after, numeral, quoted};
-use crate::fault::LoadError;
+use crate::fault::FormFault;
 use crate::var_set::{FloatProperty, VarSet};
 use fc_base::Name;
 use itoa::Buffer;
@@ -30,10 +30,10 @@ fn read_quoted<'a>(literal: &str, text: &'a str) -> Option<(&'a str, &'a str)>
 }
 
 #[tactic(auto, unfolding(crate::specs::Reading::name_at))]
-fn read_name<'a>(alloc: Global, literal: &str, text: &'a str) -> Result<(Name, &'a str), LoadError>
+fn read_name<'a>(alloc: Global, literal: &str, text: &'a str) -> Result<(Name, &'a str), FormFault>
     ensures { Gives (λ x. (x.0, x.1.now)) result (name_at literal.now text.now) }
 {
-    let (name, rest) = read_quoted(literal, text).ok_or(LoadError::NotBuilt)?;
+    let (name, rest) = read_quoted(literal, text).ok_or(FormFault::NotBuilt)?;
     Ok((Name::read(alloc, name)?, rest))
 }
 
@@ -60,13 +60,13 @@ fn amount_of(text: &str) -> Option<Amount>
 }
 
 #[tactic(auto, unfolding(crate::specs::Reading::property_at))]
-fn read_property(alloc: Global, text: &str) -> Result<(FloatProperty, &str), LoadError>
+fn read_property(alloc: Global, text: &str) -> Result<(FloatProperty, &str), FormFault>
     ensures { Gives (λ x. (property_of x.0, x.1.now)) result (property_at text.now) }
 {
     let (name, text) = read_name(alloc, "<Property name=\"", text)?;
-    let (number, text) = read_quoted(FLOAT_START, text).ok_or(LoadError::NotBuilt)?;
-    let value = amount_of(number).ok_or(LoadError::NotBuilt)?;
-    let text = after("/>\n</Property>\n", text).ok_or(LoadError::NotBuilt)?;
+    let (number, text) = read_quoted(FLOAT_START, text).ok_or(FormFault::NotBuilt)?;
+    let value = amount_of(number).ok_or(FormFault::NotBuilt)?;
+    let text = after("/>\n</Property>\n", text).ok_or(FormFault::NotBuilt)?;
     Ok((FloatProperty { name, value }, text))
 }
 
@@ -74,7 +74,7 @@ fn read_properties(
     alloc: Global,
     count: u32,
     text: &str,
-) -> Result<(Vec<FloatProperty>, &str), LoadError>
+) -> Result<(Vec<FloatProperty>, &str), FormFault>
     ensures { Gives (λ x. (map property_of x.0.items, x.1.now)) result (each (λ _. property_at) (numbers 1 count) text.now) }
 {
     let mut properties = Vec::new(alloc);
@@ -116,12 +116,12 @@ fn read_start<'a>(name: &str, text: &'a str) -> Option<(u32, &'a str)>
 }
 
 #[tactic(auto, unfolding(crate::specs::Reading::object_at))]
-fn read_object(alloc: Global, name: Name, text: &str) -> Result<(VarSet, &str), LoadError>
+fn read_object(alloc: Global, name: Name, text: &str) -> Result<(VarSet, &str), FormFault>
     ensures { Gives (λ x. (object_of x.0, x.1.now)) result (object_at name text.now) }
 {
-    let (count, text) = read_start(name.as_str(), text).ok_or(LoadError::NotBuilt)?;
+    let (count, text) = read_start(name.as_str(), text).ok_or(FormFault::NotBuilt)?;
     let (properties, text) = read_properties(alloc, count, text)?;
-    let text = after("</Properties>\n</Object>\n", text).ok_or(LoadError::NotBuilt)?;
+    let text = after("</Properties>\n</Object>\n", text).ok_or(FormFault::NotBuilt)?;
     Ok((VarSet { name, properties }, text))
 }
 
@@ -129,7 +129,7 @@ fn read_objects<'a>(
     alloc: Global,
     names: &[Name],
     text: &'a str,
-) -> Result<(Vec<VarSet>, &'a str), LoadError>
+) -> Result<(Vec<VarSet>, &'a str), FormFault>
     ensures { Gives (λ x. (map object_of x.0.items, x.1.now)) result (each object_at names.now text.now) }
 {
     let mut objects = Vec::new(alloc);
@@ -143,17 +143,17 @@ fn read_objects<'a>(
 }
 
 #[tactic(auto, unfolding(crate::specs::Reading::declared_at))]
-fn read_declared(alloc: Global, number: u32, text: &str) -> Result<(Name, &str), LoadError>
+fn read_declared(alloc: Global, number: u32, text: &str) -> Result<(Name, &str), FormFault>
     ensures { Gives (λ x. (x.0, x.1.now)) result (declared_at number text.now) }
 {
     let (name, text) = read_name(alloc, "<Object type=\"App::VarSet\" name=\"", text)?;
     let mut buffer = Buffer::new();
-    let text = skip_known(" id=\"", buffer.format(number), text).ok_or(LoadError::NotBuilt)?;
-    let text = after("/>\n", text).ok_or(LoadError::NotBuilt)?;
+    let text = skip_known(" id=\"", buffer.format(number), text).ok_or(FormFault::NotBuilt)?;
+    let text = after("/>\n", text).ok_or(FormFault::NotBuilt)?;
     Ok((name, text))
 }
 
-fn read_list(alloc: Global, count: u32, text: &str) -> Result<(Vec<Name>, &str), LoadError>
+fn read_list(alloc: Global, count: u32, text: &str) -> Result<(Vec<Name>, &str), FormFault>
     ensures { Gives (λ x. (x.0.items, x.1.now)) result (each declared_at (numbers 1 count) text.now) }
 {
     let mut names = Vec::new(alloc);
@@ -167,11 +167,11 @@ fn read_list(alloc: Global, count: u32, text: &str) -> Result<(Vec<Name>, &str),
 }
 
 #[tactic(auto, unfolding(crate::specs::Reading::names_at))]
-fn read_names(alloc: Global, text: &str) -> Result<(Vec<Name>, &str), LoadError>
+fn read_names(alloc: Global, text: &str) -> Result<(Vec<Name>, &str), FormFault>
     ensures { Gives (λ x. (x.0.items, x.1.now)) result (names_at text.now) }
 {
-    let (count, text) = read_count(DOCUMENT_START, text).ok_or(LoadError::NotBuilt)?;
-    let text = after(">\n", text).ok_or(LoadError::NotBuilt)?;
+    let (count, text) = read_count(DOCUMENT_START, text).ok_or(FormFault::NotBuilt)?;
+    let text = after(">\n", text).ok_or(FormFault::NotBuilt)?;
     let (names, text) = read_list(alloc, count, text)?;
     let mut buffer = Buffer::new();
     let text = skip_known(
@@ -179,20 +179,20 @@ fn read_names(alloc: Global, text: &str) -> Result<(Vec<Name>, &str), LoadError>
         buffer.format(count),
         text,
     )
-    .ok_or(LoadError::NotBuilt)?;
-    let text = after(">\n", text).ok_or(LoadError::NotBuilt)?;
+    .ok_or(FormFault::NotBuilt)?;
+    let text = after(">\n", text).ok_or(FormFault::NotBuilt)?;
     Ok((names, text))
 }
 
 #[tactic(auto, unfolding(crate::specs::Reading::content_at))]
-pub(crate) fn read_content(alloc: Global, text: &str) -> Result<Vec<VarSet>, LoadError>
+pub(crate) fn read_content(alloc: Global, text: &str) -> Result<Vec<VarSet>, FormFault>
     ensures { Gives (λ v. map object_of v.items) result (content_at text.now) }
 {
     let (names, text) = read_names(alloc, text)?;
     let (objects, text) = read_objects(alloc, &names, text)?;
-    let rest = after("</ObjectData>\n</Document>\n", text).ok_or(LoadError::NotBuilt)?;
+    let rest = after("</ObjectData>\n</Document>\n", text).ok_or(FormFault::NotBuilt)?;
     if !rest.is_empty() {
-        return Err(LoadError::NotBuilt);
+        return Err(FormFault::NotBuilt);
     }
     Ok(objects)
 }

@@ -1,8 +1,8 @@
 //! Sorts, outcomes and steps of expressions, for what stands behind their references.
 
-use crate::postfix::build;
 use arrayvec::ArrayString;
 use expr_eval::{Env, SortCause, SortFault, SortOutcome, evaluate, reference_count, sort_of};
+use expr_grammar::{Expr, parse};
 use fc_base::{SlotId, Steps};
 use property_types::{Outcome, Sort, Value, ValueFault};
 use quantities::{Amount, Quantity};
@@ -97,9 +97,13 @@ fn outcome_text(alloc: Global, outcome: &Outcome) -> Result<String, Fail> {
     }
 }
 
+fn expression(alloc: Global, text: &str) -> Result<Expr, Fail> {
+    Ok(parse(alloc, text)?)
+}
+
 /// The sort of an expression, as a text.
 fn sort_told(alloc: Global, text: &str, env: &Given) -> Result<String, Fail> {
-    let tree = build(alloc, text)?;
+    let tree = expression(alloc, text)?;
     if reference_count(&tree) == u32::MAX {
         return Err(Fail::new("too many references"));
     }
@@ -113,7 +117,7 @@ fn sort_told(alloc: Global, text: &str, env: &Given) -> Result<String, Fail> {
 
 /// The outcome of an expression, as a text, and the steps that it took.
 fn outcome_told(alloc: Global, text: &str, env: &Given) -> Result<(String, u64), Fail> {
-    let tree = build(alloc, text)?;
+    let tree = expression(alloc, text)?;
     if reference_count(&tree) == u32::MAX {
         return Err(Fail::new("too many references"));
     }
@@ -163,112 +167,32 @@ fn push_outcome(outcomes: &mut Vec<Outcome>, outcome: Outcome) -> Result<(), All
     Ok(())
 }
 
-/// How many cells an area has, expressions with the operations behind their operands, and their
-/// outcomes.
-static OUTCOMES: [(u32, &str, &str); 73] = [
-    (0, "2.5", "2.5 "),
-    (0, "2.5:mm^2", "2.5 mm^2"),
-    (0, "1:in", "25.4 mm"),
-    (0, "2:m^2", "2000000 mm^2"),
-    (0, "1:m^-1", "0.001 mm^-1"),
-    (0, "1000000:nm^2", "0 mm^2"),
-    (0, "=N", "1000 mm*kg*s^-2"),
-    (0, "=gon", "0.9 deg"),
+/// How many cells an area has, expressions, and their outcomes.
+static OUTCOMES: [(u32, &str, &str); 14] = [
     (0, "true", "true"),
-    (0, "\"abc", "\"abc"),
-    (0, "2 ^2 neg", "-4 "),
-    (0, "2:mm ^3", "8 mm^3"),
-    (0, "2:mm ^-2", "0.25 mm^-2"),
-    (0, "0 ^-1", "DivideByZero"),
-    (0, "0 ^0", "1 "),
-    (0, "7 neg 3 %", "-1 "),
-    (0, "7 3 neg mod", "1 "),
-    (0, "7.5:mm 2:mm %", "1.5 mm"),
-    (0, "1:m 2:mm +", "1002 mm"),
-    (0, "1:m 2:mm -", "998 mm"),
-    (0, "2:mm 3:kg *", "6 mm*kg"),
-    (0, "2:mm 3:s /", "0.666666667 mm*s^-1"),
-    (0, "2 neg 3 /", "-0.666666667 "),
-    (0, "1 0 /", "DivideByZero"),
-    (0, "1 0 %", "DivideByZero"),
-    (0, "1e10 1e10 *", "Range"),
-    (0, "1e19 1e19 neg +", "0 "),
-    (0, "1e19 neg 1e-9 -", "Range"),
-    (0, "1 0 / 1e10 1e10 * +", "DivideByZero"),
-    (0, "1e10 1e10 * 1 0 / +", "Range"),
-    (0, "7850:kg =m ^3 /", "0.00000785 mm^-3*kg"),
-    (0, "0.5 1000000000 /", "0.000000001 "),
-    (0, "0.5 neg 1000000000 /", "-0.000000001 "),
-    (0, "0.4 1000000000 /", "0 "),
-    (0, "1000000000 10000000000 *", "10000000000000000000 "),
-    (0, "=m", "1000 mm"),
-    (0, "\"a 1 ==", "false"),
-    (0, "1.5:m floor", "1500 mm"),
-    (0, "2.5 neg floor", "-3 "),
-    (0, "2.5 neg ceil", "-2 "),
-    (0, "2.5 neg round", "-3 "),
-    (0, "2.5 neg trunc", "-2 "),
-    (0, "2.5 neg abs", "2.5 "),
-    (0, "1:m 1000:mm ==", "true"),
-    (0, "1:m 1000:mm !=", "false"),
-    (0, "\"a \"b ==", "false"),
-    (0, "true true ==", "true"),
-    (0, "1 2 <", "true"),
-    (0, "2 2 <", "false"),
-    (0, "2 2 <=", "true"),
-    (0, "2 2 >", "false"),
-    (0, "2 2 >=", "true"),
-    (0, "1 2 >=", "false"),
-    (0, "true 2 1 0 / ?", "2 "),
-    (0, "false 2 1 0 / ?", "DivideByZero"),
-    (0, "1 0 / 1 == 2 3 ?", "DivideByZero"),
-    (0, "path path +", "7 "),
-    (0, "4 neg 1 neg > 1 0 / 3 ?", "3 "),
-    (0, "4 neg 2 2.5 round max", "3 "),
-    (0, "1:mm 2:mm 2:mm average", "1.666666667 mm"),
-    (0, "3:mm 1:mm 2:mm min", "1 mm"),
-    (0, "1e19 1e19 1 0 / sum", "DivideByZero"),
-    (0, "1e19 1e19 1e19 neg sum", "Range"),
-    (0, "area sum", "0 "),
-    (0, "area count", "0 "),
-    (0, "area average", "EmptyAggregate"),
-    (0, "area min", "EmptyAggregate"),
-    (0, "area max", "EmptyAggregate"),
-    (2, "area sum", "7 "),
-    (2, "1 area area count", "5 "),
-    (2, "area 10 average", "5.666666667 "),
-    (2, "area path sum", "11 "),
-    (3, "area count", "DivideByZero"),
+    (0, "<<abc>>", "\"abc"),
+    (0, "<<a>> == 1", "false"),
+    (0, "2 mm / (3 s)", "0.666666667 mm*s^-1"),
+    (0, "sum(A1:B2)", "0 "),
+    (0, "count(A1:B2)", "0 "),
+    (0, "average(A1:B2)", "EmptyAggregate"),
+    (0, "min(A1:B2)", "EmptyAggregate"),
+    (0, "max(A1:B2)", "EmptyAggregate"),
+    (2, "sum(A1:B2)", "7 "),
+    (2, "count(1; A1:B2; A1:B2)", "5 "),
+    (2, "average(A1:B2; 10)", "5.666666667 "),
+    (2, "sum(A1:B2; a)", "11 "),
+    (3, "count(A1:B2)", "DivideByZero"),
 ];
 
 /// How many cells an area has, expressions, and their sorts.
-static SORTS: [(u32, &str, &str); 26] = [
-    (0, "1:mm^8", "ExponentRange"),
-    (0, "1:mm^-8", "mm^-8"),
-    (0, "1:mm^4 1:mm^3 *", "mm^7"),
-    (0, "1:mm^4 1:mm^4 *", "ExponentRange"),
-    (0, "1:mm^-4 1:mm^5 /", "ExponentRange"),
-    (0, "=N ^4", "mm^4*kg^4*s^-8"),
-    (0, "=N ^5", "ExponentRange"),
-    (0, "1:mm 2 +", "UnitMismatch"),
-    (0, "1:mm true +", "KindMismatch"),
-    (0, "1:mm 2 + true +", "UnitMismatch"),
-    (0, "true 1:mm 2 + +", "UnitMismatch"),
-    (0, "true 1:mm^8 + 1:mm 2 + +", "ExponentRange"),
-    (0, "1:mm 2 <", "UnitMismatch"),
-    (0, "1:mm 2 ==", "UnitMismatch"),
-    (0, "\"a true ==", "KindMismatch"),
-    (0, "\"a \"b ==", "a flag"),
-    (0, "\"a \"b <", "KindMismatch"),
-    (0, "1 1:mm 2 ?", "KindMismatch"),
-    (0, "true 1:mm 2 ?", "UnitMismatch"),
-    (0, "true \"a \"b ?", "a text"),
-    (0, "1:mm 2:s true sum", "KindMismatch"),
-    (0, "1:mm 2:s sum", "UnitMismatch"),
-    (0, "1:mm 2:mm count", ""),
-    (0, "area min", ""),
-    (3, "1:mm area sum", "UnitMismatch"),
-    (4, "area sum", "KindMismatch"),
+static SORTS: [(u32, &str, &str); 6] = [
+    (0, "N^4", "mm^4*kg^4*s^-8"),
+    (0, "<<a>> == <<b>>", "a flag"),
+    (0, "true ? <<a>> : <<b>>", "a text"),
+    (0, "min(A1:B2)", ""),
+    (3, "sum(1 mm; A1:B2)", "UnitMismatch"),
+    (4, "sum(A1:B2)", "KindMismatch"),
 ];
 
 #[test]
@@ -294,12 +218,10 @@ fn finds_sorts(rt: HostRuntime) -> Result<(), Fail> {
 #[test]
 fn counts_steps(rt: HostRuntime) -> Result<(), Fail> {
     for (text, want) in [
-        ("2", 1),
-        ("path 1 +", 3),
-        ("true 1 2 neg ?", 3),
-        ("false 1 2 neg ?", 4),
-        ("1 0 / 2 +", 5),
-        ("area 1 2 neg sum", 4),
+        ("true ? 1 : -2", 3),
+        ("false ? 1 : -2", 4),
+        ("1 / 0 + 2", 5),
+        ("sum(A1:B2; 1; -2)", 4),
     ] {
         let env = three_cells(rt.alloc(), 2)?;
         let (_, steps) = outcome_told(rt.alloc(), text, &env)?;

@@ -4,15 +4,11 @@
 #[cfg(test)]
 mod evaluation;
 #[cfg(test)]
-mod files;
-#[cfg(test)]
 mod grammar;
 #[cfg(test)]
 mod numbers;
 #[cfg(test)]
 mod paths;
-#[cfg(test)]
-mod postfix;
 #[cfg(test)]
 mod rules;
 #[cfg(test)]

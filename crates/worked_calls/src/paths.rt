@@ -7,20 +7,11 @@ use std::test::Fail;
 #[test]
 fn reads_and_writes_paths(rt: HostRuntime) -> Result<(), Fail> {
     for (text, want) in [
-        ("Width", "Width"),
         (".Width", "Width"),
-        (" \tBox . Width ", "Box.Width"),
-        ("Box.m", "Box.m"),
-        (".m", ".m"),
         (" . true", ".true"),
-        ("m.m", "m.m"),
-        ("A1", "A1"),
         ("$A$1", "$A$1"),
         ("S.A$1", "S.A$1"),
-        ("Placement.Base.x", "Placement.Base.x"),
         (".Placement . Rotation . Turn", "Placement.Rotation.Turn"),
-        ("Box.Placement.Base.z", "Box.Placement.Base.z"),
-        ("<<My. box>>.Width", "<<My. box>>.Width"),
         ("<< b >> . P.Base.y", "<< b >>.P.Base.y"),
         ("<<<>>.Width", "<<<>>.Width"),
     ] {
@@ -35,26 +26,12 @@ fn reads_and_writes_paths(rt: HostRuntime) -> Result<(), Fail> {
 fn refuses_what_is_no_path(rt: HostRuntime) {
     for text in [
         "",
-        " ",
-        ".",
         "m",
-        "true",
-        "9a",
-        "a b",
-        "a..b",
-        "a.",
-        "a.b.c",
         ".a.b",
         "a.Base.w",
         "Base.x.y.z",
-        "a.b.Base.x.y",
         "$A$0",
-        "<<>>.a",
-        "<<a>>",
-        "<<a>>b",
-        "<<a>.b",
         "<<a>>>>.b",
-        "<<a>>.",
         "V.<<a>>",
     ] {
         let read = Path::read(rt.alloc(), text);
@@ -65,9 +42,6 @@ fn refuses_what_is_no_path(rt: HostRuntime) {
 #[test]
 fn writes_paths_from_outside(rt: HostRuntime) -> Result<(), Fail> {
     for (text, want) in [
-        ("a", "V.a"),
-        (".m", "V.m"),
-        ("Placement.Base.x", "V.Placement.Base.x"),
         ("Placement.Rotation.Turn", "V.Placement.Rotation.Turn"),
         ("$A$5", "V.$A$5"),
     ] {

@@ -4,7 +4,7 @@ ghost use Rattle.std.specs.Prelude.{◌≤◌};
 
 use doc_rules::DocFault;
 use fc_base::{MemorySink, MemoryStore, Steps, TextValue};
-use fcdoc_core::{Command, OpenFault, Reply, Session, Status, run};
+use fcdoc_core::{Command, OpenFault, Reply, Script, Session, Status, run};
 use property_types::Value;
 use quantities::{Amount, Quantity};
 use std::alloc::{AllocError, Global};
@@ -149,8 +149,18 @@ fn usage_and_script_refused(rt: HostRuntime) -> Result<(), Fail> {
     store.place("S", b"get V.a\n\xff\n")?;
     let mut sink = MemorySink::new(alloc, Vec::new(alloc), 1000);
     let words = words(alloc, "D")?;
-    let refused = (Status::ScriptRefused, "script refused NotBuilt\n");
+    let refused = (Status::ScriptRefused, "script refused NotUtf8 2\n");
     assert!(rt; ends(alloc, &mut store, &words, &mut sink, refused));
+    Ok(())
+}
+
+#[test]
+fn reads_script(rt: HostRuntime) -> Result<(), Fail> {
+    let script = Script::read(rt.alloc(), b"# a\r\n\nget V.a\r")?;
+    assert_eq!(rt; script.line_at(0), Some("# a"));
+    assert_eq!(rt; script.line_at(1), Some(""));
+    assert_eq!(rt; script.line_at(2), Some("get V.a\r"));
+    assert_eq!(rt; script.line_at(3), None);
     Ok(())
 }
 

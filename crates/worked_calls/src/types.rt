@@ -11,64 +11,40 @@ use std::alloc::Global;
 use std::test::Fail;
 use unit_signatures::{Unit, unit_named};
 
-/// 1, in billionths.
-const ONE: i128 = 1_000_000_000;
-
 /// Types, the billionths and the unit of a number, and the billionths that are its value, if any.
-static FITS: [(&str, i128, &str, Result<i128, ValueFault>); 31] = [
-    ("App::PropertyFloat", -1, "", Ok(-1)),
-    ("App::PropertyInteger", -3 * ONE, "", Ok(-3 * ONE)),
-    ("App::PropertyInteger", 1, "", Err(ValueFault::NotWhole)),
+static FITS: [(&str, i128, &str, Result<i128, ValueFault>); 13] = [
     (
         "App::PropertyInteger",
-        ONE - 1,
+        -3_000_000_000,
         "",
-        Err(ValueFault::NotWhole),
+        Ok(-3_000_000_000),
     ),
-    ("App::PropertyPercent", 0, "", Ok(0)),
-    ("App::PropertyPercent", 100 * ONE, "", Ok(100 * ONE)),
-    ("App::PropertyPercent", -1, "", Err(ValueFault::NotWhole)),
-    ("App::PropertyPercent", -ONE, "", Err(ValueFault::OutOfType)),
+    ("App::PropertyInteger", 1, "", Err(ValueFault::NotWhole)),
     (
         "App::PropertyPercent",
-        101 * ONE,
+        100_000_000_000,
+        "",
+        Ok(100_000_000_000),
+    ),
+    (
+        "App::PropertyPercent",
+        101_000_000_000,
         "",
         Err(ValueFault::OutOfType),
     ),
-    (
-        "App::PropertyPercent",
-        100 * ONE + 1,
-        "",
-        Err(ValueFault::NotWhole),
-    ),
-    ("App::PropertyLength", 0, "mm", Ok(0)),
+    ("App::PropertyPercent", -1, "", Err(ValueFault::NotWhole)),
     ("App::PropertyLength", 5, "", Ok(5)),
     ("App::PropertyLength", -1, "mm", Err(ValueFault::OutOfType)),
     ("App::PropertyDistance", -1, "mm", Ok(-1)),
-    ("App::PropertyDistance", -1, "", Ok(-1)),
-    ("App::PropertyAngle", -400 * ONE, "deg", Ok(-400 * ONE)),
-    ("App::PropertyArea", 0, "", Ok(0)),
     ("App::PropertyArea", -1, "", Err(ValueFault::OutOfType)),
-    ("App::PropertyVolume", 7, "l", Ok(7)),
     ("App::PropertyVolume", -7, "l", Err(ValueFault::OutOfType)),
-    ("App::PropertyMass", -2, "kg", Ok(-2)),
-    ("App::PropertyTime", -2, "s", Ok(-2)),
-    ("App::PropertySpeed", -2, "", Ok(-2)),
     ("App::PropertyForce", -2, "N", Ok(-2)),
-    ("App::PropertyPressure", -2, "Pa", Ok(-2)),
-    ("App::PropertyDensity", -2, "", Ok(-2)),
-    ("the turn", 0, "", Ok(0)),
-    ("the turn", 23 * ONE, "", Ok(23 * ONE)),
-    ("the turn", 24 * ONE, "", Err(ValueFault::OutOfType)),
-    ("the turn", -ONE, "", Err(ValueFault::OutOfType)),
-    ("the turn", ONE / 2, "", Err(ValueFault::NotWhole)),
+    ("the turn", 23_000_000_000, "", Ok(23_000_000_000)),
+    ("the turn", 24_000_000_000, "", Err(ValueFault::OutOfType)),
 ];
 
-/// The names of the types, and the text of the unit of each type of numbers.
-static UNITS: [(&str, &str); 14] = [
-    ("App::PropertyFloat", ""),
-    ("App::PropertyInteger", ""),
-    ("App::PropertyPercent", ""),
+/// The types of numbers with a unit, and the text of the unit of each.
+static UNITS: [(&str, &str); 11] = [
     ("App::PropertyLength", "mm"),
     ("App::PropertyDistance", "mm"),
     ("App::PropertyAngle", "deg"),
@@ -139,14 +115,7 @@ fn names_types_and_units(rt: HostRuntime) -> Result<(), Fail> {
         }
         assert_eq!(rt; text.as_str(), *unit, "{name}");
     }
-    for name in [
-        "App::PropertyFloats",
-        "PropertyFloat",
-        "app::PropertyFloat",
-        "",
-    ] {
-        assert!(rt; PropType::named(name).is_none(), "{name}");
-    }
+    assert!(rt; PropType::named("PropertyLength").is_none());
     Ok(())
 }
 
@@ -154,7 +123,6 @@ fn names_types_and_units(rt: HostRuntime) -> Result<(), Fail> {
 fn gives_zeros(rt: HostRuntime) -> Result<(), Fail> {
     let alloc = rt.alloc();
     assert!(rt; PropType::Length.zero(alloc)? == number(0, "mm")?);
-    assert!(rt; PropType::Turn.zero(alloc)? == number(0, "")?);
     assert!(rt; PropType::Bool.zero(alloc)? == Value::Flag(false));
     let empty = TextValue::read(alloc, "")?;
     assert!(rt; PropType::String.zero(alloc)? == Value::Text(empty));
@@ -168,7 +136,7 @@ fn copies_plans(rt: HostRuntime) -> Result<(), Fail> {
     inputs.push(InputPlan {
         name: Name::read(alloc, "Width")?,
         prop: PropType::Length,
-        default: number(100 * ONE, "mm")?,
+        default: number(100_000_000_000, "mm")?,
     })?;
     let mut outputs = Vec::new(alloc);
     outputs.push(OutputPlan {
@@ -190,16 +158,12 @@ fn copies_plans(rt: HostRuntime) -> Result<(), Fail> {
 }
 
 #[test]
-fn copies_outcomes(rt: HostRuntime) -> Result<(), Fail> {
+fn copies_texts(rt: HostRuntime) -> Result<(), Fail> {
     let alloc = rt.alloc();
     let text = Value::Text(TextValue::read(alloc, "a text")?);
     match copy_outcome(alloc, &Ok(text))? {
         Ok(Value::Text(text)) => assert_eq!(rt; text.as_str(), "a text"),
         _ => return Err(Fail::new("no text")),
-    }
-    match copy_outcome(alloc, &Err(ValueFault::NotWhole))? {
-        Err(fault) => assert!(rt; fault == ValueFault::NotWhole),
-        Ok(_) => return Err(Fail::new("a value")),
     }
     Ok(())
 }

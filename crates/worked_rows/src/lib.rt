@@ -2,8 +2,4 @@
 #![tactic(auto)]
 
 #[cfg(test)]
-mod closed;
-#[cfg(test)]
 mod expressions;
-#[cfg(test)]
-mod lexemes;

@@ -1,8 +1,10 @@
-use Rattle.fcdoc_core.proofs.FilesLemmas.{script_found, script_too_long}
+use Rattle.std.proofs.Common.{subst}
+use Rattle.fcdoc_core.specs.Plans.{IsWithin}
+use Rattle.fcdoc_core.proofs.FilesLemmas.{script_found, long_script}
 use Rattle.fcdoc_core.proofs.plan.plan_of_session.Goals as goal
 
 pub returns-in-Ok-Bytes-clause-means : goal.returns-in-Ok-Bytes-clause-means
-returns-in-Ok-Bytes-clause-means g c = script_found _ c.deref.result.now _ c.plan_of_script.result c.plan_of_script.ensures.plan
+returns-in-Ok-Bytes-clause-means g c = script_found _ c.deref.result.now _ c.plan_of_script.result (rw c.deref.ensures.value (subst IsWithin c.in-Ok-Bytes.field-0-is c.in-Ok-Bytes.ensures.within)) c.plan_of_script.ensures.plan
 
 pub returns-in-Ok-TooLong-clause-means : goal.returns-in-Ok-TooLong-clause-means
-returns-in-Ok-TooLong-clause-means g c = script_too_long _ _
+returns-in-Ok-TooLong-clause-means g c = long_script _ _

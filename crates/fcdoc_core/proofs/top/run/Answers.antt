@@ -4,7 +4,7 @@ use Rattle.fcdoc_core.proofs.top.run.Goals as goal
 
 pub returns-in-Ok-deliver-clause-headline : goal.returns-in-Ok-deliver-clause-headline
 returns-in-Ok-deliver-clause-headline g c =
-    headline_all _ _ _ c.in-Ok-deliver.status _ _ c.in-Ok.ensures.told c.in-Ok-deliver.ensures.ended c.in-Ok-deliver.ensures.spoken.0 c.in-Ok-deliver.ensures.spoken.1
+    headline_all _ _ c.in-Ok.plan c.in-Ok-deliver.status _ _ c.in-Ok.ensures.told c.in-Ok-deliver.ensures.ended c.in-Ok-deliver.ensures.spoken.0 c.in-Ok-deliver.ensures.spoken.1
 
 pub returns-in-Ok-deliver-clause-causes : goal.returns-in-Ok-deliver-clause-causes
 returns-in-Ok-deliver-clause-causes g c =

@@ -4,7 +4,7 @@ use Rattle.std.proofs.lemmas.Result.{err_from_is_err_and}
 use Rattle.fcdoc_file.specs.FirstDocument.{first_document}
 use Rattle.fcdoc_file.specs.Rows.{object_of}
 use Rattle.fcdoc_file.proofs.DocumentLaws.{document_of_some, first_form_of_some, refused}
-use Rattle.fcdoc_file.proofs.first_document.load.Goals as goal
+use Rattle.fcdoc_file.proofs.first_document.load_first.Goals as goal
 
 pub returns-in_err-objects-clause-not_built : goal.returns-in_err-objects-clause-not_built
 returns-in_err-objects-clause-not_built c =
