@@ -16,4 +16,6 @@ mod runs;
 #[cfg(test)]
 mod tables;
 #[cfg(test)]
+mod tokens;
+#[cfg(test)]
 mod types;
