@@ -52,7 +52,7 @@ abbrev IsNames : List (List ℕ) → Type 0
 IsNames names = AllByRecursion (λ n. is_name n ≡ true) names
 
 -- a name with its number, and what follows
-abbrev declared_text : List ℕ → ℕ → List ℕ → List ℕ
+abbrev pub declared_text : List ℕ → ℕ → List ℕ → List ℕ
 declared_text name number rest = declared_mark ++ (name ++ 34 ∷ (id_mark ++ (decimal number ++ 34 ∷ (row_end ++ rest))))
 
 declared_at-append : (name : List ℕ) (number : ℕ) (rest : List ℕ) → is_name name ≡ true → declared_at number (declared_text name number rest) ≡ Some (name, rest)
@@ -78,7 +78,7 @@ declared_at_some number text x e =
 regroup_row : (a n b d c ns rest : List ℕ) → (a ++ (n ++ 34 ∷ (b ++ (d ++ 34 ∷ (c ++ ns))))) ++ rest ≡ a ++ (n ++ 34 ∷ (b ++ (d ++ 34 ∷ (c ++ (ns ++ rest)))))
 regroup_row a n b d c ns rest = simp append_assoc
 
-names_grouped : (name : List ℕ) (number : ℕ) (names : List (List ℕ)) (rest : List ℕ)
+pub names_grouped : (name : List ℕ) (number : ℕ) (names : List (List ℕ)) (rest : List ℕ)
     → names_text number (name ∷ names) ++ rest ≡ declared_text name number (names_text (number + 1) names ++ rest)
 names_grouped name number names rest = regroup_row declared_mark name id_mark (decimal number) row_end (names_text (number + 1) names) rest
 
@@ -111,7 +111,7 @@ list_some first (suc n) text x e =
 
 -- ---- what stands before the data
 
-abbrev head_text : ℕ → List (List ℕ) → List ℕ → List ℕ
+abbrev pub head_text : ℕ → List (List ℕ) → List ℕ → List ℕ
 head_text n names rest =
     start_mark ++ (decimal n ++ 34 ∷ (opened_line ++ (names_text 1 names ++ (data_mark ++ (decimal n ++ 34 ∷ (opened_line ++ rest))))))
 
@@ -206,11 +206,16 @@ counted_within (o ∷ os) few =
     (omega (arith, split), counted_within os (omega (arith, split)))
 
 -- what standing together says of the counts
+pub few_objects : (os : List FirstObject) → stands_together os ≡ true → length os ≤ 4096
+few_objects os together =
+    let within = (both_tests (are_distinct (map name_of os) && list_all has_own_names os) (is_within_limits os) together).1 in
+    leb-true (length os) 4096 (both_tests (leb (length os) 4096) (leb (sum_by (λ o. length o.properties) os) 65536) within).0
+
 pub together_counted : (os : List FirstObject) → stands_together os ≡ true → AllByRecursion IsCounted os × (length os < 2 ^ 32)
 together_counted os together =
     let within = (both_tests (are_distinct (map name_of os) && list_all has_own_names os) (is_within_limits os) together).1 in
     let limits = both_tests (leb (length os) 4096) (leb (sum_by (λ o. length o.properties) os) 65536) within in
-    let few : length os ≤ 4096 = leb-true (length os) 4096 limits.0 in
+    let few = few_objects os together in
     (counted_within os (leb-true (sum_by (λ o. length o.properties) os) 65536 limits.1), omega arith)
 
 chosen : {A : Type 0} (a b : Bool) (x y z : A) → cond (a || b) x y ≡ z → ((a ≡ true) × (x ≡ z)) ⊎ (((b ≡ true) × (x ≡ z)) ⊎ (y ≡ z))

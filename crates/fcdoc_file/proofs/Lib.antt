@@ -6,5 +6,7 @@ pub mod ObjectLaws
 pub mod DocumentLaws
 pub mod DistinctLemmas
 pub mod StandingLemmas
-pub mod Utf8Laws
+pub mod ValueLemmas
+pub mod TextLaws
+pub mod WellFormedLaws
 pub mod FillingLemmas

@@ -44,6 +44,10 @@ object_end = codes "</Properties>\n</Object>\n"
 regroup_property : (a n b v c rest : List ℕ) → (a ++ (n ++ 34 ∷ (b ++ (v ++ 34 ∷ c)))) ++ rest ≡ a ++ (n ++ 34 ∷ (b ++ (v ++ 34 ∷ (c ++ rest))))
 regroup_property a n b v c rest = simp append_assoc
 
+-- a property's text, and what follows
+pub property_grouped : (p : FirstProperty) (rest : List ℕ) → property_text p ++ rest ≡ property_mark ++ (p.name ++ 34 ∷ (float_mark ++ (nine_text p.value ++ 34 ∷ (property_end ++ rest))))
+property_grouped p rest = regroup_property property_mark p.name float_mark (nine_text p.value) property_end rest
+
 join_property : (a n b v c rest text t q u : List ℕ) → text ≡ a ++ (n ++ 34 ∷ t) → t ≡ b ++ (q ++ 34 ∷ u) → q ≡ v → u ≡ c ++ rest
     → text ≡ (a ++ (n ++ 34 ∷ (b ++ (v ++ 34 ∷ c)))) ++ rest
 join_property a n b v c rest text t q u e0 e1 e2 e3 =
@@ -54,7 +58,7 @@ unfolding property_at
 property_at-append p rest is =
     let t2 : List ℕ = property_end ++ rest in
     let t1 : List ℕ = float_mark ++ (nine_text p.value ++ 34 ∷ t2) in
-    ap property_at (regroup_property property_mark p.name float_mark (nine_text p.value) property_end rest)
+    ap property_at (property_grouped p rest)
     ∙ goes (name_at property_mark (property_mark ++ (p.name ++ 34 ∷ t1))) _ (p.name, t1) _ (name_at-append property_mark p.name t1 is.0)
     (goes (quoted_at float_mark t1) _ (nine_text p.value, t2) _ (quoted_at-append float_mark (nine_text p.value) t2 (no_quote (nine_text p.value) (nine_text-no_quote p.value is.1)))
     (goes (amount_of (nine_text p.value)) _ p.value _ (amount_of-nine_text p.value is.1) (goes (after property_end t2) _ rest _ (after-append property_end rest) refl)))
@@ -157,7 +161,7 @@ regroup_object : (a n b d c e ps f rest : List ℕ) → (a ++ (n ++ 34 ∷ (b ++
 regroup_object a n b d c e ps f rest = simp append_assoc
 
 -- an object's text, and what follows
-object_grouped : (o : FirstObject) (rest : List ℕ) → object_text o ++ rest ≡ start_text o.name (length o.properties + 2) (flat_map property_text o.properties ++ (object_end ++ rest))
+pub object_grouped : (o : FirstObject) (rest : List ℕ) → object_text o ++ rest ≡ start_text o.name (length o.properties + 2) (flat_map property_text o.properties ++ (object_end ++ rest))
 object_grouped o rest =
     regroup_object object_mark o.name properties_mark (decimal (length o.properties + 2)) label_mark engine (flat_map property_text o.properties) object_end rest
 

@@ -15,21 +15,15 @@ pub data Unloaded : Type 0 where
   malformed : LoadFault → Unloaded
   not_built : Unloaded
 
-abbrev pub unloaded_by : Option XmlFault → Unloaded
-unloaded_by (Some fault) = malformed (load_fault_of fault)
-unloaded_by None = not_built
-
--- why bytes that are no text of the first form are no document
-abbrev pub unloaded : List ℕ → Unloaded
-unloaded bytes = unloaded_by (scan_of bytes).fault
-
-abbrev pub loaded_by : Option Document → List ℕ → Result Document Unloaded
-loaded_by (Some d) bytes = Ok d
-loaded_by None bytes = Err (unloaded bytes)
+-- well-formed bytes are a document where they are a text of the first form
+abbrev pub loaded_by : Option XmlFault → Option Document → Result Document Unloaded
+loaded_by (Some fault) found = Err (malformed (load_fault_of fault))
+loaded_by None (Some d) = Ok d
+loaded_by None None = Err not_built
 
 -- the document that bytes are the text of, or why they are none
 abbrev pub loaded : List ℕ → Result Document Unloaded
-loaded bytes = loaded_by (document_of bytes) bytes
+loaded bytes = loaded_by (scan_of bytes).fault (document_of bytes)
 
 -- what a call tells of it; want of memory says nothing of the bytes
 abbrev pub IsUnloaded : Unloaded → LoadError → Type 0

@@ -1,8 +1,9 @@
-ghost use Rattle.std.specs.Prelude.{◌≡◌, ◌||◌, ℕ, List, [], IfOk, IsErrOf, Some, map};
+ghost use Rattle.std.specs.Prelude.{◌≡◌, ◌||◌, ℕ, List, [], IfOk, IsErrOf, None, Some, map};
 ghost use Rattle.std.specs.Str.{bytes_eq};
 ghost use Rattle.fcdoc_file.specs.FirstForm.{empty_text, first_text};
 ghost use Rattle.document_model.specs.Document.{Document};
 ghost use Rattle.doc_tables.specs.Numbered.{Numbered};
+ghost use Rattle.fcxml_profile.specs.Scanning.{scan_of};
 ghost use Rattle.fcdoc_file.specs.Answers.{Gives};
 ghost use Rattle.fcdoc_file.specs.FirstDocument.{ReadsFirst};
 ghost use Rattle.fcdoc_file.specs.Reading.{first_form_of, document_of};
@@ -58,8 +59,10 @@ pub(crate) fn load_first(alloc: Global, bytes: &[u8]) -> Result<Tables, FormFaul
     Ok(tables_of(alloc, &objects)?)
 }
 
-/// The bytes have a document exactly where they are its text, and so one at most.
+/// The bytes have a document exactly where they are its text, and so one at most. They are
+/// well-formed then.
 pub fn document_is_read_exactly()
     ensures found { (bytes : List ℕ) (d : Document) → document_of bytes ≡ Some d → ReadsFirst bytes d }
     ensures only { (bytes : List ℕ) (d : Document) → ReadsFirst bytes d → document_of bytes ≡ Some d }
+    ensures well_formed { (bytes : List ℕ) (d : Document) → ReadsFirst bytes d → (scan_of bytes).fault ≡ None }
 {}

@@ -1,7 +1,8 @@
-ghost use Rattle.std.specs.Prelude.{◌≡◌, ℕ, List, IfOk, IsErrOf};
+ghost use Rattle.std.specs.Prelude.{◌≡◌, ℕ, List, Err, None, IfOk, IsErrOf};
 ghost use Rattle.document_model.specs.Document.{Document};
 ghost use Rattle.fcdoc_file.specs.FirstDocument.{ReadsFirst};
-ghost use Rattle.fcdoc_file.specs.Loading.{loaded, unloaded, IsUnloaded, Loads};
+ghost use Rattle.fcdoc_file.specs.Loading.{loaded, Loads};
+ghost use Rattle.fcdoc_file.specs.Reading.{document_of};
 
 use crate::fault::FormFault;
 use crate::first_document::load_first;
@@ -12,7 +13,8 @@ use std::alloc::Global;
 
 /// Why bytes that are no text of the first form are no document.
 fn refused(alloc: Global, bytes: &[u8]) -> LoadError
-    ensures { IsUnloaded (unloaded bytes.now) result }
+    requires { document_of bytes.now ≡ None }
+    ensures { Loads (loaded bytes.now) (Err result) }
 {
     match first_fault(alloc, bytes) {
         Ok(Some(fault)) => LoadError::Load(LoadFault::of(fault)),
@@ -22,7 +24,8 @@ fn refused(alloc: Global, bytes: &[u8]) -> LoadError
 }
 
 /// Reads a document. Of bytes that are not well-formed Load tells what is wrong first, and where.
-/// NotBuilt comes for all others that are not the text of a document of the first form.
+/// NotBuilt comes for all others that are not the text of a document of the first form. A text of
+/// the first form is well-formed, so it is not looked over a second time.
 pub fn load(alloc: Global, bytes: &[u8]) -> Result<Tables, LoadError>
     ensures exact { Loads (loaded bytes.now) result }
     ensures found { IfOk result (λ t. ReadsFirst bytes.now t.document) }

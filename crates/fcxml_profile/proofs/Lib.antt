@@ -11,3 +11,4 @@ mod ScanLemmas
 mod ReadingLemmas
 mod BalanceLemmas
 mod ScannerLemmas
+pub mod SpelledLemmas

@@ -1,4 +1,4 @@
-use Rattle.fcdoc_file.proofs.Utf8Laws.{no_text}
+use Rattle.fcdoc_file.proofs.TextLaws.{no_text}
 use Rattle.fcdoc_file.proofs.first_document.load_objects.Goals as goal
 
 pub returns-in_default : goal.returns-in_default
