@@ -1,4 +1,4 @@
-ghost use Rattle.std.specs.Prelude.{◌≡◌, ◌+◌, ◌-◌, ◌^◌, ℕ, min};
+ghost use Rattle.std.specs.Prelude.{◌≡◌, ◌≤◌, ◌+◌, ◌-◌, ◌^◌, ℕ, min};
 
 use std::marker::Model;
 
@@ -31,6 +31,13 @@ impl<L> Steps<L> {
         ensures { self.new ≡ min (self.old + 1) (2 ^ 64 - 1) }
     {
         self.count = self.count.saturating_add(1);
+    }
+
+    /// Nothing to do: a count fits 64 bits.
+    pub fn is_bounded(&self)
+        ensures { self.now ≤ 2 ^ 64 - 1 }
+    {
+        let _ = self.count();
     }
 
     /// The number of steps.

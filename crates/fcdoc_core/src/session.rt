@@ -89,7 +89,7 @@ impl Session {
         ensures never_less { steps.old ≤ steps.new }
         ensures at_most { steps.new ≤ min (steps.old + most_steps self.old command.now) (2 ^ 64 - 1) }
     {
-        let _count = steps.count();
+        steps.is_bounded();
         match command {
             Command::Edit(edit) => self.edit(edit),
             Command::Get(path) => value_of(

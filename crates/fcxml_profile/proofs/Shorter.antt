@@ -10,7 +10,7 @@ use Rattle.fcxml_profile.specs.Items.{Attribute, Tag, Item, run, attribute_at, a
 use Rattle.fcxml_profile.proofs.FrontLemmas.{after_some}
 
 -- a reading that goes on found something to go on behind
-abbrev pub bind_some : {A B : Type 0} (o : Option A) (f : A → Option B) (y : B) → (o >>= f) ≡ Some y → (x : A) × (o ≡ Some x) × (f x ≡ Some y)
+pub bind_some : {A B : Type 0} (o : Option A) (f : A → Option B) (y : B) → (o >>= f) ≡ Some y → (x : A) × (o ≡ Some x) × (f x ≡ Some y)
 bind_some None f y e = absurd (cc)
 bind_some (Some x) f y e = (x, refl, e)
 

@@ -104,7 +104,7 @@ impl Values {
         ensures never_less { steps.old ≤ steps.new }
         ensures at_most { steps.new ≤ min (steps.old + nodes_of_document tables.now.document) (2 ^ 64 - 1) }
     {
-        let _count = steps.count();
+        steps.is_bounded();
         let alloc = *self.outcomes.allocator();
         tables.is_numbered();
         tables.holds_var_sets();
