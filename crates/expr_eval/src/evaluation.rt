@@ -1,11 +1,12 @@
 ghost use Rattle.std.specs.Prelude.{◌≡◌, ◌+◌, ◌-◌, ◌<◌, ◌≤◌, ◌^◌, ◌++◌, map, min, IfOk, OnOk};
-ghost use Rattle.expr_grammar.specs.Nodes.{node_count};
-ghost use Rattle.expr_grammar.specs.References.{reference_count};
+ghost use Rattle.expr_grammar.specs.Levels.{arguments_of};
+ghost use Rattle.expr_grammar.specs.Nodes.{argument_nodes, node_count};
+ghost use Rattle.expr_grammar.specs.References.{argument_reference_count, reference_count};
 ghost use Rattle.property_types.specs.declared.value.ValueFault.TheVariants.{OutOfType};
 ghost use Rattle.expr_eval.specs.Aggregates.{aggregate_outcome};
 ghost use Rattle.expr_eval.specs.Firsts.{all_of, on_one};
 ghost use Rattle.expr_eval.specs.Numbers.{number_of};
-ghost use Rattle.expr_eval.specs.Outcomes.{outcome_of};
+ghost use Rattle.expr_eval.specs.Outcomes.{items_by, outcome_of};
 
 use crate::aggregates::aggregate_outcome;
 use crate::all_of::all_of;
@@ -39,6 +40,7 @@ pub fn evaluate<E: Env, L>(
 }
 
 /// The outcome of a tree whose first reference is the `first` one of the expression.
+#[cycle(evaluation)]
 fn evaluate_from<E: Env, L>(
     alloc: Global,
     tree: &Expr,
@@ -58,18 +60,15 @@ fn evaluate_from<E: Env, L>(
         Node::Flag(flag) => Ok(Ok(Value::Flag(*flag))),
         Node::Text(text) => Ok(Ok(Value::Text(text.copy(alloc)?))),
         Node::Path(_) => copy_outcome(alloc, env.outcome_at(first)),
-        Node::Negate(a) => {
-            let operand = evaluate_from(alloc, a, env, first, steps)?;
-            Ok(negated(into_number(operand)))
-        }
+        Node::Negate(a) => Ok(negated(number(alloc, a, env, first, steps)?)),
         Node::Binary(op, a, b) => {
-            let left = evaluate_from(alloc, a, env, first, steps)?;
-            let right = evaluate_from(alloc, b, env, first + reference_count(a), steps)?;
-            Ok(binary_outcome(*op, into_number(left), into_number(right)))
+            let left = number(alloc, a, env, first, steps)?;
+            let right = number(alloc, b, env, first + reference_count(a), steps)?;
+            Ok(binary_outcome(*op, left, right))
         }
         Node::Power(a, exponent) => {
-            let operand = evaluate_from(alloc, a, env, first, steps)?;
-            Ok(power_outcome(*exponent, into_number(operand)))
+            let base = number(alloc, a, env, first, steps)?;
+            Ok(power_outcome(*exponent, base))
         }
         Node::Compare(op, a, b) => {
             let left = evaluate_from(alloc, a, env, first, steps)?;
@@ -86,33 +85,70 @@ fn evaluate_from<E: Env, L>(
             }
         }
         Node::Function(op, a) => {
-            let operand = evaluate_from(alloc, a, env, first, steps)?;
-            Ok(function_outcome(*op, into_number(operand)))
+            let operand = number(alloc, a, env, first, steps)?;
+            Ok(function_outcome(*op, operand))
         }
         Node::Modulo(a, b) => {
-            let left = evaluate_from(alloc, a, env, first, steps)?;
-            let right = evaluate_from(alloc, b, env, first + reference_count(a), steps)?;
-            Ok(binary_outcome(BinaryOp::Modulo, into_number(left), into_number(right)))
+            let left = number(alloc, a, env, first, steps)?;
+            let right = number(alloc, b, env, first + reference_count(a), steps)?;
+            Ok(binary_outcome(BinaryOp::Modulo, left, right))
         }
         Node::Aggregate(op, all) => {
-            let mut items = Vec::new(alloc);
-            let mut next = first;
-            for argument in all {
-                match argument {
-                    Argument::Tree(part) => {
-                        let outcome = evaluate_from(alloc, part, env, next, steps)?;
-                        items.push(into_number(outcome))?;
-                        next += reference_count(part);
-                    }
-                    Argument::Cells(_) => {
-                        push_cells(env, next, &mut items)?;
-                        next += 1;
-                    }
-                }
-            }
+            let items = item_numbers(alloc, all, env, first, steps)?;
             aggregated(alloc, *op, &items)
         }
     }
+}
+
+/// The number that a tree gives whose first reference is the `first` one of the expression.
+#[cycle(evaluation)]
+fn number<E: Env, L>(
+    alloc: Global,
+    tree: &Expr,
+    env: &E,
+    first: u32,
+    steps: &mut Steps<L>,
+) -> Result<Numeric, AllocError>
+    requires { first + reference_count tree.now < 2 ^ 32 }
+    ensures number { IfOk result (λ n. n ≡ number_of OutOfType (outcome_of (E.reading env.now) first tree.now)) }
+    ensures at_least { min (steps.old + 1) (2 ^ 64 - 1) ≤ steps.new }
+    ensures at_most { steps.new ≤ min (steps.old + node_count tree.now) (2 ^ 64 - 1) }
+{
+    let outcome = evaluate_from(alloc, tree, env, first, steps)?;
+    Ok(into_number(outcome))
+}
+
+/// The numbers that the items of arguments give, whose first reference is the `first` one of the
+/// expression.
+#[cycle(evaluation)]
+fn item_numbers<E: Env, L>(
+    alloc: Global,
+    arguments: &[Argument],
+    env: &E,
+    first: u32,
+    steps: &mut Steps<L>,
+) -> Result<Vec<Numeric>, AllocError>
+    requires { first + argument_reference_count (arguments_of arguments.now) < 2 ^ 32 }
+    ensures items { IfOk result (λ items. items.items ≡ items_by OutOfType (E.reading env.now) first (arguments_of arguments.now)) }
+    ensures never_less { steps.old ≤ steps.new }
+    ensures at_most { steps.new ≤ min (steps.old + argument_nodes (arguments_of arguments.now)) (2 ^ 64 - 1) }
+{
+    steps.is_bounded();
+    let mut items = Vec::new(alloc);
+    let mut next = first;
+    for argument in arguments {
+        match argument {
+            Argument::Tree(part) => {
+                items.push(number(alloc, part, env, next, steps)?)?;
+                next += reference_count(part);
+            }
+            Argument::Cells(_) => {
+                push_cells(env, next, &mut items)?;
+                next += 1;
+            }
+        }
+    }
+    Ok(items)
 }
 
 /// Adds the numbers of an area's filled cells.

@@ -1,8 +1,9 @@
 ghost use Rattle.std.specs.Prelude.{◌≡◌, ◌+◌, ◌<◌, ◌^◌, IfOk, OnOk, ◌++◌};
-ghost use Rattle.expr_grammar.specs.References.{reference_count};
+ghost use Rattle.expr_grammar.specs.Levels.{arguments_of};
+ghost use Rattle.expr_grammar.specs.References.{argument_reference_count, reference_count};
 ghost use Rattle.expr_eval.specs.Firsts.{all_of, on_one};
 ghost use Rattle.expr_eval.specs.SortRows.{aggregate_sort};
-ghost use Rattle.expr_eval.specs.Sorts.{HasSort, sort_of};
+ghost use Rattle.expr_eval.specs.Sorts.{HasSort, item_sorts, sort_of};
 
 use crate::all_of::all_of;
 use crate::env::Env;
@@ -28,6 +29,7 @@ pub fn sort_of<E: Env>(alloc: Global, tree: &Expr, env: &E) -> Result<Sort, Sort
 }
 
 /// The sort of a tree whose first reference is the `first` one of the expression.
+#[cycle(sorts)]
 fn sort_from<E: Env>(
     alloc: Global,
     tree: &Expr,
@@ -69,23 +71,38 @@ fn sort_from<E: Env>(
             Ok(binary_sort(BinaryOp::Modulo, left, right))
         }
         Node::Aggregate(op, all) => {
-            let mut items = Vec::new(alloc);
-            let mut next = first;
-            for argument in all {
-                match argument {
-                    Argument::Tree(part) => {
-                        items.push(sort_from(alloc, part, env, next)?)?;
-                        next += reference_count(part);
-                    }
-                    Argument::Cells(_) => {
-                        push_cell_sorts(env, next, &mut items)?;
-                        next += 1;
-                    }
-                }
-            }
+            let items = item_sorts(alloc, all, env, first)?;
             aggregated_sort(alloc, *op, &items)
         }
     }
+}
+
+/// The sorts of the items of arguments whose first reference is the `first` one of the expression.
+#[cycle(sorts)]
+fn item_sorts<E: Env>(
+    alloc: Global,
+    arguments: &[Argument],
+    env: &E,
+    first: u32,
+) -> Result<Vec<SortOutcome>, AllocError>
+    requires { first + argument_reference_count (arguments_of arguments.now) < 2 ^ 32 }
+    ensures { IfOk result (λ items. items.items ≡ item_sorts (E.sort_reading env.now) first (arguments_of arguments.now)) }
+{
+    let mut items = Vec::new(alloc);
+    let mut next = first;
+    for argument in arguments {
+        match argument {
+            Argument::Tree(part) => {
+                items.push(sort_from(alloc, part, env, next)?)?;
+                next += reference_count(part);
+            }
+            Argument::Cells(_) => {
+                push_cell_sorts(env, next, &mut items)?;
+                next += 1;
+            }
+        }
+    }
+    Ok(items)
 }
 
 /// Adds the sorts of an area's filled cells.
