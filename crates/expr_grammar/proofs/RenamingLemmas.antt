@@ -1,5 +1,5 @@
 -- From the end of the listed numbers on, references are changed alike: as they were.
-use Rattle.std.proofs.Common.{◌≡◌, ℕ, ◌+◌, ◌<◌, ◌≤◌, suc, min, List, [], ◌∷◌, ◌++◌, length, get_or, drop, drop-cons, add-one, None, refl, ap, sym, ◌∙◌, inl, inr, arith}
+use Rattle.std.proofs.Common.{◌≡◌, ℕ, ◌+◌, ◌<◌, ◌≤◌, zero, suc, min, List, [], ◌∷◌, ◌++◌, length, get_or, drop, drop-cons, add-one, None, refl, ap, sym, ◌∙◌, inl, inr, arith}
 use Rattle.std.proofs.lemmas.Bool.{cases_lt}
 use Rattle.std.proofs.lemmas.List.{drop_all}
 use Rattle.fc_base.specs.Places.{Block}
@@ -9,11 +9,23 @@ use Rattle.expr_grammar.specs.declared.expr.Argument.TheVariants as argument
 use Rattle.expr_grammar.specs.declared.renaming.NewReference.{NewReference}
 use Rattle.expr_grammar.specs.Joined.{joined}
 use Rattle.expr_grammar.specs.Levels.{arguments_of}
+use Rattle.expr_grammar.specs.Nodes.{argument_nodes}
 use Rattle.expr_grammar.specs.Numbered.{with_numbered, with_numbered_arguments}
 use Rattle.expr_grammar.specs.References.{reference_count, argument_reference_count}
 use Rattle.expr_grammar.specs.Renaming.{new_reference, numbers_end, path_or, area_or, renamed_path, renamed_area}
 use Rattle.expr_grammar.specs.Tree.{Tree, literal, unit_one, flag, text, path, negate, binary, power, compare, conditional, function, modulo, aggregate, Arguments, no_more, tree, cells}
 use Rattle.expr_grammar.proofs.JoinedLemmas.{joined-append, joined-no_more}
+
+-- the arguments behind the next one have at most the nodes of those from it on
+fewer : (i : ℕ) (items : List Argument) → argument_nodes (arguments_of (drop (suc i) items)) ≤ argument_nodes (arguments_of (drop i items))
+fewer zero [] = omega arith
+fewer (suc i) [] = omega arith
+fewer zero (argument.Tree t ∷ xs) = omega arith
+fewer zero (argument.Cells a ∷ xs) = omega arith
+fewer (suc i) (x ∷ xs) = fewer i xs
+
+pub fewer_nodes : (i : ℕ) (items : List Argument) → argument_nodes (arguments_of (drop (i + 1) items)) ≤ argument_nodes (arguments_of (drop i items))
+fewer_nodes i items = rw (add-one) (fewer i items)
 
 -- nothing is listed from the end on
 new_reference-end : (pairs : List (ℕ × NewReference)) (k : ℕ) → numbers_end pairs ≤ k → new_reference pairs k ≡ None

@@ -1,6 +1,7 @@
 ghost use Rattle.std.specs.Prelude.{◌≡◌, ◌+◌, ◌≤◌, min, IfOk, OnOk, option_copied};
-ghost use Rattle.expr_grammar.specs.Numbered.{with_numbered};
-ghost use Rattle.expr_grammar.specs.References.{reference_count};
+ghost use Rattle.expr_grammar.specs.Numbered.{with_numbered, with_numbered_arguments};
+ghost use Rattle.expr_grammar.specs.Levels.{arguments_of};
+ghost use Rattle.expr_grammar.specs.References.{argument_reference_count, reference_count};
 ghost use Rattle.expr_grammar.specs.Renaming.{IsRenamingOf, new_reference, numbers_end, renamed, renamed_area, renamed_path};
 
 use crate::expr::{Argument, Expr, Node};
@@ -86,6 +87,7 @@ impl Expr {
     /// The expression behind the change, whose first reference has the number, and the number
     /// behind its last one.
     #[tactic(auto, using(crate::proofs::RenamingLemmas::tree_capped))]
+    #[cycle(renamed)]
     fn renamed(
         &self,
         alloc: Global,
@@ -132,20 +134,35 @@ impl Expr {
                 Expr::modulo(alloc, left, right)
             }
             Node::Aggregate(op, all) => {
-                let mut copies = Vec::new(alloc);
-                for argument in all {
-                    match argument {
-                        Argument::Tree(tree) => {
-                            copies.push(Argument::Tree(tree.renamed(alloc, listed, number)?))?
-                        }
-                        Argument::Cells(area) => {
-                            copies.push(Argument::Cells(listed.area(number, area)))?
-                        }
-                    }
-                }
-                Ok(Expr::aggregate(*op, copies))
+                let arguments = Expr::renamed_arguments(alloc, all, listed, number)?;
+                Ok(Expr::aggregate(*op, arguments))
             }
         }
+    }
+
+    /// The arguments behind the change, whose first reference has the number, and the number behind
+    /// their last one.
+    #[cycle(renamed)]
+    fn renamed_arguments(
+        alloc: Global,
+        arguments: &[Argument],
+        listed: &Listed<'_>,
+        number: &mut u64,
+    ) -> Result<Vec<Argument>, AllocError>
+        requires { number.old ≤ numbers_end listed.now.pairs.now }
+        ensures arguments { IfOk result (λ all. arguments_of all.items ≡ with_numbered_arguments (renamed_path listed.now.pairs.now) (renamed_area listed.now.pairs.now) number.old (arguments_of arguments.now)) }
+        ensures number { OnOk result (number.new ≡ min (number.old + argument_reference_count (arguments_of arguments.now)) (numbers_end listed.now.pairs.now)) }
+    {
+        let mut copies = Vec::new(alloc);
+        for argument in arguments {
+            match argument {
+                Argument::Tree(tree) => {
+                    copies.push(Argument::Tree(tree.renamed(alloc, listed, number)?))?;
+                }
+                Argument::Cells(area) => copies.push(Argument::Cells(listed.area(number, area)))?,
+            }
+        }
+        Ok(copies)
     }
 }
 

@@ -1,17 +1,17 @@
 use Rattle.std.proofs.Common.{◌≡◌, ◌∙◌, ◌++◌, ◌∷◌, [], arith}
 use Rattle.expr_grammar.specs.declared.expr.Argument.TheVariants as argument
-use Rattle.expr_grammar.proofs.RenamingLemmas.{next_tree, next_area, next_tree_count, next_area_count, all_renamed}
+use Rattle.expr_grammar.proofs.RenamingLemmas.{next_tree, next_area, next_tree_count, next_area_count, fewer_nodes, all_renamed}
 use Rattle.expr_grammar.proofs.expr.Expr.+renamed.Goals as goal
-use Rattle.expr_grammar.proofs.expr.Expr.+renamed.Goals.{in-Tree+in_ok-renamed-in-Tree+in_ok-push-in-Tree, in-Cells+in_ok-push-in-Cells}
+use Rattle.expr_grammar.proofs.expr.Expr.+renamed.Goals.{renamed_arguments-in-Tree+in_ok-renamed-in-Tree+in_ok-push-in-Tree, renamed_arguments-in-Cells+in_ok-push-in-Cells}
 
-pub loop-argument-preserved : goal.loop-argument-preserved
-loop-argument-preserved t c =
+pub renamed_arguments-loop-argument-preserved : goal.renamed_arguments-loop-argument-preserved
+renamed_arguments-loop-argument-preserved t c =
     let pairs = c.args.listed.now.pairs.now in
-    let items = c.deref-argument-items.result.now in
+    let items = c.args.arguments.now in
     let i = c.loop-argument.argument-index in
     let item = c.argument-item.result in
     elim c.match-argument.branch [
-      | in-Tree+in_ok-renamed-in-Tree+in_ok-push-in-Tree w ↦
+      | renamed_arguments-in-Tree+in_ok-renamed-in-Tree+in_ok-push-in-Tree w ↦
           let number = w.number-is ∙ w.in_ok-renamed-in-Tree.ensures.number in
           let pushed : c.match-argument.copies.items ≡ c.loop-argument.copies.items ++ argument.Tree w.in_ok-renamed-in-Tree.field-0 ∷ [] =
           rw (w.copies-is, w.in_ok-push-in-Tree.ensures.items) in
@@ -22,8 +22,9 @@ loop-argument-preserved t c =
             counted = next_tree_count pairs items i c.loop-argument.number c.match-argument.number
                 item _ c.loop-argument-test.true c.argument-item.is w.in-Tree.is number ∙ c.loop-argument.invariant.counted;
             low = omega (arith, number);
+            left = omega (arith, fewer_nodes i items);
           }
-      | in-Cells+in_ok-push-in-Cells w ↦
+      | renamed_arguments-in-Cells+in_ok-push-in-Cells w ↦
           let number = w.number-is ∙ w.area.ensures.number in
           let pushed : c.match-argument.copies.items ≡ c.loop-argument.copies.items ++ argument.Cells w.area.result ∷ [] =
           rw (w.copies-is, w.in_ok-push-in-Cells.ensures.items) in
@@ -34,11 +35,11 @@ loop-argument-preserved t c =
             counted = next_area_count pairs items i c.loop-argument.number c.match-argument.number
                 item _ c.loop-argument-test.true c.argument-item.is w.in-Cells.is number ∙ c.loop-argument.invariant.counted;
             low = omega (arith, number);
+            left = omega (arith, fewer_nodes i items);
           }
     ]
 
-pub returns-after-loop-argument-clause-tree : goal.returns-after-loop-argument-clause-tree
-returns-after-loop-argument-clause-tree t c =
-    let all = all_renamed c.args.listed.now.pairs.now c.deref-argument-items.result.now c.loop-argument.copies.items c.loop-argument.argument-index
-    c.args.number.now c.loop-argument.number c.loop-argument-test.false c.loop-argument.invariant.arguments in
-    rw (c.aggregate.ensures, ← c.self.view_is, c.in-Aggregate.is, all, c.deref-argument-items.ensures.value)
+pub renamed_arguments-returns-clause-arguments : goal.renamed_arguments-returns-clause-arguments
+renamed_arguments-returns-clause-arguments t c =
+    all_renamed c.args.listed.now.pairs.now c.args.arguments.now c.loop-argument.copies.items c.loop-argument.argument-index
+    c.args.number.now c.loop-argument.number c.loop-argument-test.false c.loop-argument.invariant.arguments
