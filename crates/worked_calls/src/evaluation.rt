@@ -1,8 +1,7 @@
 //! Sorts, outcomes and steps of expressions, for what stands behind their references.
 
-use arrayvec::ArrayString;
 use expr_eval::{Env, SortCause, SortFault, SortOutcome, evaluate, reference_count, sort_of};
-use expr_grammar::{Expr, parse};
+use expr_grammar::parse;
 use fc_base::{SlotId, Steps};
 use property_types::{Outcome, Sort, Value, ValueFault};
 use quantities::{Amount, Quantity};
@@ -69,66 +68,58 @@ impl Env for Given {
     }
 }
 
-/// The text of a number's unit, or the kind of another sort.
-fn sort_text(alloc: Global, sort: Sort) -> Result<String, AllocError> {
-    match sort {
-        Sort::Number(unit) => {
-            let mut text = ArrayString::new();
-            unit.write(&mut text);
-            String::from_str(alloc, text.as_str())
-        }
-        Sort::Flag => String::from_str(alloc, "a flag"),
-        Sort::Text => String::from_str(alloc, "a text"),
-    }
-}
-
-/// An outcome as a text: `3 mm`, `true`, `"a text` or the name of a fault.
-fn outcome_text(alloc: Global, outcome: &Outcome) -> Result<String, Fail> {
-    match outcome {
-        Ok(Value::Number(number)) => {
-            let mut text = ArrayString::new();
-            number.amount.write_decimal(&mut text);
-            let unit = sort_text(alloc, Sort::Number(number.unit))?;
-            Ok(format!(in alloc; "{} {}", text.as_str(), unit.as_str())?)
-        }
-        Ok(Value::Flag(flag)) => Ok(format!(in alloc; "{flag}")?),
-        Ok(Value::Text(text)) => Ok(format!(in alloc; "\"{}", text.as_str())?),
-        Err(fault) => Ok(format!(in alloc; "{fault:?}")?),
-    }
-}
-
-fn expression(alloc: Global, text: &str) -> Result<Expr, Fail> {
-    Ok(parse(alloc, text)?)
-}
-
-/// The sort of an expression, as a text.
-fn sort_told(alloc: Global, text: &str, env: &Given) -> Result<String, Fail> {
-    let tree = expression(alloc, text)?;
+/// The sort of an expression, where each area has so many cells.
+fn sort_told(alloc: Global, cells: u32, text: &str) -> Result<SortOutcome, Fail> {
+    let tree = parse(alloc, text)?;
+    let env = three_cells(alloc, cells)?;
     if reference_count(&tree) == u32::MAX {
         return Err(Fail::new("too many references"));
     }
-    let sort = sort_of(alloc, &tree, env);
-    match &sort {
-        Ok(sort) => Ok(sort_text(alloc, *sort)?),
-        Err(SortFault::Cause(cause)) => Ok(format!(in alloc; "{cause:?}")?),
-        Err(SortFault::Memory(_)) => Err(Fail::new("out of memory")),
+    match sort_of(alloc, &tree, &env) {
+        Ok(sort) => Ok(Ok(sort)),
+        Err(SortFault::Cause(cause)) => Ok(Err(cause)),
+        Err(SortFault::Memory(error)) => Err(Fail::from(error)),
     }
 }
 
-/// The outcome of an expression, as a text, and the steps that it took.
-fn outcome_told(alloc: Global, text: &str, env: &Given) -> Result<(String, u64), Fail> {
-    let tree = expression(alloc, text)?;
+/// What an expression gives, and the steps that it took.
+#[derive(Drop)]
+struct Told {
+    outcome: Outcome,
+    steps: u64,
+}
+
+/// The outcome of an expression, where each area has so many cells.
+fn outcome_told(alloc: Global, cells: u32, text: &str) -> Result<Told, Fail> {
+    let tree = parse(alloc, text)?;
+    let env = three_cells(alloc, cells)?;
     if reference_count(&tree) == u32::MAX {
         return Err(Fail::new("too many references"));
     }
     let mut steps = Steps::new("no ledger");
-    let outcome = evaluate(alloc, &tree, env, &mut steps)?;
-    Ok((outcome_text(alloc, &outcome)?, steps.count()))
+    let outcome = evaluate(alloc, &tree, &env, &mut steps)?;
+    Ok(Told {
+        outcome,
+        steps: steps.count(),
+    })
 }
 
-fn number(raw: i128, unit: Unit) -> Result<Outcome, Fail> {
+/// The billionths of an expression's value, or its fault.
+fn billionths(alloc: Global, cells: u32, text: &str) -> Result<Result<i128, ValueFault>, Fail> {
+    let told = outcome_told(alloc, cells, text)?;
+    match &told.outcome {
+        Ok(Value::Number(number)) if number.unit == Unit::pure() => Ok(Ok(number.amount.raw())),
+        Ok(_) => Err(Fail::new("no pure number")),
+        Err(fault) => Ok(Err(*fault)),
+    }
+}
+
+fn number(raw: i128) -> Result<Outcome, Fail> {
     let amount = Amount::of_raw(raw).map_err(|_| "out of range")?;
-    Ok(Ok(Value::Number(Quantity { amount, unit })))
+    Ok(Ok(Value::Number(Quantity {
+        amount,
+        unit: Unit::pure(),
+    })))
 }
 
 /// Three pure numbers, 3, 4 and one that is the fault DivideByZero, then a flag; the cells are the
@@ -137,7 +128,7 @@ fn three_cells(alloc: Global, cells: u32) -> Result<Given, Fail> {
     let mut outcomes = Vec::new(alloc);
     let mut sorts = Vec::new(alloc);
     for raw in [3_000_000_000, 4_000_000_000] {
-        let outcome = number(raw, Unit::pure())?;
+        let outcome = number(raw)?;
         push_outcome(&mut outcomes, outcome)?;
         push_sort(&mut sorts, Sort::Number(Unit::pure()))?;
     }
@@ -167,65 +158,59 @@ fn push_outcome(outcomes: &mut Vec<Outcome>, outcome: Outcome) -> Result<(), All
     Ok(())
 }
 
-/// How many cells an area has, expressions, and their outcomes.
-static OUTCOMES: [(u32, &str, &str); 14] = [
-    (0, "true", "true"),
-    (0, "<<abc>>", "\"abc"),
-    (0, "<<a>> == 1", "false"),
-    (0, "2 mm / (3 s)", "0.666666667 mm*s^-1"),
-    (0, "sum(A1:B2)", "0 "),
-    (0, "count(A1:B2)", "0 "),
-    (0, "average(A1:B2)", "EmptyAggregate"),
-    (0, "min(A1:B2)", "EmptyAggregate"),
-    (0, "max(A1:B2)", "EmptyAggregate"),
-    (2, "sum(A1:B2)", "7 "),
-    (2, "count(1; A1:B2; A1:B2)", "5 "),
-    (2, "average(A1:B2; 10)", "5.666666667 "),
-    (2, "sum(A1:B2; a)", "11 "),
-    (3, "count(A1:B2)", "DivideByZero"),
-];
-
-/// How many cells an area has, expressions, and their sorts.
-static SORTS: [(u32, &str, &str); 6] = [
-    (0, "N^4", "mm^4*kg^4*s^-8"),
-    (0, "<<a>> == <<b>>", "a flag"),
-    (0, "true ? <<a>> : <<b>>", "a text"),
-    (0, "min(A1:B2)", ""),
-    (3, "sum(1 mm; A1:B2)", "UnitMismatch"),
-    (4, "sum(A1:B2)", "KindMismatch"),
+/// How many cells an area has, expressions, and the billionths of their values, or their faults.
+static OUTCOMES: [(u32, &str, Result<i128, ValueFault>); 12] = [
+    (0, "<<a>> == 1 ? 2 : 3", Ok(3_000_000_000)),
+    (0, "a + b", Ok(7_000_000_000)),
+    (0, "sum(A1:B2)", Ok(0)),
+    (0, "count(A1:B2)", Ok(0)),
+    (0, "average(A1:B2)", Err(ValueFault::EmptyAggregate)),
+    (0, "min(A1:B2)", Err(ValueFault::EmptyAggregate)),
+    (0, "max(A1:B2)", Err(ValueFault::EmptyAggregate)),
+    (2, "sum(A1:B2)", Ok(7_000_000_000)),
+    (2, "count(1; A1:B2; A1:B2)", Ok(5_000_000_000)),
+    (2, "average(A1:B2; 10)", Ok(5_666_666_667)),
+    (2, "sum(A1:B2; a)", Ok(11_000_000_000)),
+    (3, "count(A1:B2)", Err(ValueFault::DivideByZero)),
 ];
 
 #[test]
 fn evaluates(rt: HostRuntime) -> Result<(), Fail> {
     for (cells, text, want) in &OUTCOMES {
-        let env = three_cells(rt.alloc(), *cells)?;
-        let (told, _) = outcome_told(rt.alloc(), text, &env)?;
-        assert_eq!(rt; told.as_str(), *want, "{text}");
+        assert!(rt; billionths(rt.alloc(), *cells, text)? == *want, "{text}");
     }
     Ok(())
+}
+
+/// Whether an expression has this sort, where each area has so many cells.
+fn has_sort(alloc: Global, cells: u32, text: &str, want: SortOutcome) -> Result<bool, Fail> {
+    Ok(sort_told(alloc, cells, text)? == want)
 }
 
 #[test]
 fn finds_sorts(rt: HostRuntime) -> Result<(), Fail> {
-    for (cells, text, want) in &SORTS {
-        let env = three_cells(rt.alloc(), *cells)?;
-        let told = sort_told(rt.alloc(), text, &env)?;
-        assert_eq!(rt; told.as_str(), *want, "{text}");
-    }
+    let alloc = rt.alloc();
+    let pure = Sort::Number(Unit::pure());
+    assert!(rt; has_sort(alloc, 0, "<<a>> == <<b>>", Ok(Sort::Flag))?);
+    assert!(rt; has_sort(alloc, 0, "true ? <<a>> : <<b>>", Ok(Sort::Text))?);
+    assert!(rt; has_sort(alloc, 0, "min(A1:B2)", Ok(pure))?);
+    assert!(rt; has_sort(alloc, 3, "sum(1 mm; A1:B2)", Err(SortCause::UnitMismatch))?);
+    assert!(rt; has_sort(alloc, 4, "sum(A1:B2)", Err(SortCause::KindMismatch))?);
     Ok(())
 }
 
+/// Expressions, and the steps that they take.
+static STEPS: [(&str, u64); 4] = [
+    ("true ? 1 : -2", 3),
+    ("false ? 1 : -2", 4),
+    ("1 / 0 + 2", 5),
+    ("sum(A1:B2; 1; -2)", 4),
+];
+
 #[test]
 fn counts_steps(rt: HostRuntime) -> Result<(), Fail> {
-    for (text, want) in [
-        ("true ? 1 : -2", 3),
-        ("false ? 1 : -2", 4),
-        ("1 / 0 + 2", 5),
-        ("sum(A1:B2; 1; -2)", 4),
-    ] {
-        let env = three_cells(rt.alloc(), 2)?;
-        let (_, steps) = outcome_told(rt.alloc(), text, &env)?;
-        assert_eq!(rt; steps, want, "{text}");
+    for (text, want) in &STEPS {
+        assert!(rt; outcome_told(rt.alloc(), 2, text)?.steps == *want, "{text}");
     }
     Ok(())
 }

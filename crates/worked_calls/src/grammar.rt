@@ -1,7 +1,18 @@
-//! What an expression refers to.
+//! Trees, printed forms and references of expressions, which the program shows in no run.
 
-use expr_grammar::{Reference, parse, references};
+use expr_grammar::{
+    ExprCause, ExprFault, ParseFault, Reference, Renaming, map_paths, parse, print, references,
+};
+use std::alloc::{AllocError, Global};
 use std::test::Fail;
+
+/// Whether a reference is this path, or an area between these rows.
+fn is_reference(alloc: Global, reference: &Reference, want: &str) -> Result<bool, AllocError> {
+    match reference {
+        Reference::ToPath(path) => Ok(path.write(alloc)?.as_str() == want),
+        Reference::ToArea(area) => Ok(area.from.row == 1 && area.to.row == 2 && want == "1..2"),
+    }
+}
 
 #[test]
 fn lists_references(rt: HostRuntime) -> Result<(), Fail> {
@@ -10,14 +21,126 @@ fn lists_references(rt: HostRuntime) -> Result<(), Fail> {
         alloc,
         "-a + sum(Box.b; A1:B2; mod(<<My box>>.c; 2) ^ 2; true ? d : floor(e))",
     )?;
-    let mut seen = String::new(alloc);
-    for reference in &references(alloc, &tree)? {
-        match reference {
-            Reference::ToPath(path) => seen.push_str(path.write(alloc)?.as_str())?,
-            Reference::ToArea(area) => write!(seen, "{}..{}", area.from.row, area.to.row)?,
-        }
-        seen.push_str(" ")?;
+    let listed = references(alloc, &tree)?;
+    assert!(rt; listed.len() == 6);
+    let wanted = ["a", "Box.b", "1..2", "<<My box>>.c", "d", "e"];
+    for (reference, want) in listed.iter().zip(wanted) {
+        assert!(rt; is_reference(alloc, reference, want)?, "{want}");
     }
-    assert_eq!(rt; seen.as_str(), "a Box.b 1..2 <<My box>>.c d e ");
+    Ok(())
+}
+
+/// Whether a text is printed so.
+fn prints(alloc: Global, text: &str, want: &str) -> Result<bool, Fail> {
+    let tree = parse(alloc, text)?;
+    Ok(print(alloc, &tree)?.as_str() == want)
+}
+
+/// Whether the copy of a tree is printed so.
+fn copy_prints(alloc: Global, text: &str, want: &str) -> Result<bool, Fail> {
+    let tree = parse(alloc, text)?;
+    let copy = tree.copy(alloc)?;
+    Ok(print(alloc, &copy)?.as_str() == want)
+}
+
+/// Texts with cells, areas, placements and labels that are no names, and their printed forms.
+static PRINTED: [(&str, &str); 3] = [
+    (
+        "sum( $A1:B$2 ,3;$A$1*S.A$1)",
+        "sum($A1:B$2; 3; $A$1 * S.A$1)",
+    ),
+    ("Placement.Base.x-.m.Base.y", "Placement.Base.x - m.Base.y"),
+    (
+        "Box.Placement.Rotation.Turn/<<My box>> . Width",
+        "Box.Placement.Rotation.Turn / <<My box>>.Width",
+    ),
+];
+
+#[test]
+fn prints_texts(rt: HostRuntime) -> Result<(), Fail> {
+    for (text, want) in &PRINTED {
+        assert!(rt; prints(rt.alloc(), text, want)?, "{text}");
+        assert!(rt; prints(rt.alloc(), want, want)?, "{want}");
+        assert!(rt; copy_prints(rt.alloc(), text, want)?, "a copy of {text}");
+    }
+    Ok(())
+}
+
+/// Causes and places of texts that are no expressions.
+static REFUSED: [(ExprCause, &str, u64); 6] = [
+    (ExprCause::Syntax, "", 0),
+    (ExprCause::Syntax, "1 + * 2", 4),
+    (ExprCause::Lexical, "1 + * #", 6),
+    (ExprCause::Lexical, "a\n", 1),
+    (ExprCause::Lexical, "<<\u{1}>>", 0),
+    (ExprCause::TooLarge, "(((((((((((((((((((((((((((((((((", 32),
+];
+
+fn is_refused(alloc: Global, text: &str, want: ExprFault) -> bool {
+    matches!(parse(alloc, text), Err(ParseFault::Expr(fault)) if fault == want)
+}
+
+/// Each cause, and texts that stand in no line of a script.
+#[test]
+fn refuses_texts(rt: HostRuntime) {
+    for (cause, text, place) in &REFUSED {
+        let want = ExprFault {
+            place: *place,
+            cause: *cause,
+        };
+        assert!(rt; is_refused(rt.alloc(), text, want), "{text}");
+    }
+}
+
+/// A piece, how often it stands, what stands behind, and what closes each piece.
+static DEEP: [(&str, u32, &str, &str); 4] = [
+    ("-", 511, "1", ""),
+    ("1 ? 1 : ", 127, "1", ""),
+    ("1 + ", 255, "1", ""),
+    ("1 - (", 32, "1 - 2", ")"),
+];
+
+fn push_copies(text: &mut String, piece: &str, count: u32) -> Result<(), AllocError> {
+    for _ in 0..count {
+        text.push_str(piece)?;
+    }
+    Ok(())
+}
+
+fn deep(
+    alloc: Global,
+    piece: &str,
+    count: u32,
+    middle: &str,
+    closed: &str,
+) -> Result<String, AllocError> {
+    let mut text = String::new(alloc);
+    push_copies(&mut text, piece, count)?;
+    text.push_str(middle)?;
+    push_copies(&mut text, closed, count)?;
+    Ok(text)
+}
+
+/// The deepest trees of 512 tokens and 32 brackets are read, printed and copied within the stack.
+#[test]
+fn reads_deep_trees(rt: HostRuntime) -> Result<(), Fail> {
+    for (piece, count, middle, closed) in &DEEP {
+        let text = deep(rt.alloc(), piece, *count, middle, closed)?;
+        assert!(rt;
+            copy_prints(rt.alloc(), text.as_str(), text.as_str())?,
+            "{piece}"
+        );
+    }
+    Ok(())
+}
+
+#[test]
+fn replaces_no_reference_that_is_not_listed(rt: HostRuntime) -> Result<(), Fail> {
+    let tree = parse(rt.alloc(), "a + sum(b; A1:B2)")?;
+    let renaming = Renaming {
+        pairs: Vec::new(rt.alloc()),
+    };
+    let same = map_paths(rt.alloc(), &tree, &renaming)?;
+    assert!(rt; print(rt.alloc(), &same)?.as_str() == "a + sum(b; A1:B2)");
     Ok(())
 }

@@ -1,4 +1,4 @@
-//! Public calls of the crates, tried on worked values.
+//! Public calls that the program does not make, tried on worked values.
 #![tactic(auto)]
 
 #[cfg(test)]
@@ -6,16 +6,6 @@ mod evaluation;
 #[cfg(test)]
 mod grammar;
 #[cfg(test)]
-mod numbers;
-#[cfg(test)]
-mod paths;
-#[cfg(test)]
-mod rules;
-#[cfg(test)]
 mod runs;
 #[cfg(test)]
-mod tables;
-#[cfg(test)]
 mod tokens;
-#[cfg(test)]
-mod types;

@@ -3,8 +3,8 @@
 ghost use Rattle.std.specs.Prelude.{◌≤◌};
 
 use doc_rules::DocFault;
-use fc_base::{MemorySink, MemoryStore, Steps, TextValue};
-use fcdoc_core::{Command, OpenFault, Reply, Script, Session, Status, run};
+use fc_base::{MemorySink, MemoryStore, TextValue};
+use fcdoc_core::{OpenFault, Reply, Script, Status, run};
 use property_types::Value;
 use quantities::{Amount, Quantity};
 use std::alloc::{AllocError, Global};
@@ -16,8 +16,6 @@ const ONE_VARSET: &str =
     "<?xml version='1.0' encoding='utf-8'?>\n<Document SchemaVersion=\"4\">\n<Objects Count=\"1\">\n<Object type=\"App::VarSet\" name=\"V\" id=\"1\"/>\n</Objects>\n<ObjectData Count=\"1\">\n<Object name=\"V\">\n<Properties Count=\"3\">\n<Property name=\"Label\" type=\"App::PropertyString\">\n<String value=\"V\"/>\n</Property>\n<Property name=\"ExpressionEngine\" type=\"App::PropertyExpressionEngine\">\n<ExpressionEngine count=\"0\"/>\n</Property>\n<Property name=\"a\" type=\"App::PropertyFloat\" group=\"Base\" doc=\"\" ro=\"0\" hide=\"0\">\n<Float value=\"2.000000000\"/>\n</Property>\n</Properties>\n</Object>\n</ObjectData>\n</Document>\n";
 
 const FOUR_GETS: &str = "get V.a\nget V.a\nget V.a\nget V.a\n";
-
-const USAGE: &str = "usage: fcdoc run DOC SCRIPT [--save NAME] | check DOC | make N\n";
 
 /// The words `run D S`.
 fn words(alloc: Global, document: &str) -> Result<Vec<String>, AllocError> {
@@ -56,28 +54,6 @@ fn ends(
 ) -> bool {
     let status = run(alloc, words, store, sink);
     status == wanted.0 && sink.bytes() == wanted.1.as_bytes()
-}
-
-fn answers(alloc: Global, script: &str, status: Status, text: &str) -> Result<bool, AllocError> {
-    let mut store = store(alloc, script, 0)?;
-    let mut sink = MemorySink::new(alloc, Vec::new(alloc), 1000);
-    let words = words(alloc, "D")?;
-    Ok(ends(alloc, &mut store, &words, &mut sink, (status, text)))
-}
-
-#[test]
-fn reads_one_value(rt: HostRuntime) -> Result<(), Fail> {
-    assert!(rt; answers(rt.alloc(), "get V.a\n", Status::Done, "= 2\n")?);
-    assert!(rt; answers(rt.alloc(), "", Status::Done, "")?);
-    Ok(())
-}
-
-#[test]
-fn refusals_of_get(rt: HostRuntime) -> Result<(), Fail> {
-    let script = "get V.a\nget V.b\nget W.a\nrecompute\n";
-    let text = "= 2\nrefused 3 NoProperty\nrefused 2 NoObject\nrecomputed 0 calls 0 faults\n";
-    assert!(rt; answers(rt.alloc(), script, Status::SomeRefused, text)?);
-    Ok(())
 }
 
 fn sink_gives(
@@ -140,104 +116,52 @@ fn store_fails(rt: HostRuntime) -> Result<(), Fail> {
     Ok(())
 }
 
-#[test]
-fn usage_and_script_refused(rt: HostRuntime) -> Result<(), Fail> {
-    let alloc = rt.alloc();
-    let mut store = store(alloc, "", 0)?;
-    let mut sink = MemorySink::new(alloc, Vec::new(alloc), 1000);
-    assert!(rt; ends(alloc, &mut store, &[], &mut sink, (Status::Usage, USAGE)));
-    store.place("S", b"get V.a\n\xff\n")?;
-    let mut sink = MemorySink::new(alloc, Vec::new(alloc), 1000);
-    let words = words(alloc, "D")?;
-    let refused = (Status::ScriptRefused, "script refused NotUtf8 2\n");
-    assert!(rt; ends(alloc, &mut store, &words, &mut sink, refused));
-    Ok(())
+/// The first two lines of a script, and whether there is a third.
+fn is_read(alloc: Global, bytes: &[u8], lines: [Option<&str>; 3]) -> Result<bool, Fail> {
+    let script = Script::read(alloc, bytes)?;
+    Ok([script.line_at(0), script.line_at(1), script.line_at(2)] == lines)
 }
 
 #[test]
 fn reads_script(rt: HostRuntime) -> Result<(), Fail> {
-    let script = Script::read(rt.alloc(), b"# a\r\n\nget V.a\r")?;
-    assert_eq!(rt; script.line_at(0), Some("# a"));
-    assert_eq!(rt; script.line_at(1), Some(""));
-    assert_eq!(rt; script.line_at(2), Some("get V.a\r"));
-    assert_eq!(rt; script.line_at(3), None);
-    Ok(())
-}
-
-#[test]
-fn never_stale(rt: HostRuntime) -> Result<(), Fail> {
-    let script =
-        "bind V.a 2^3\nget V.a\nrecompute\nget V.a\nexpr V.a\nbind V.a V.a\nset V.a 1/4\nget V.a\nexpr V.a\n";
-    let text =
-        "ok\nrefused 28 NotRecomputed\nrecomputed 0 calls 0 faults\n= 8\n: 2^3\nrefused 14 Cycle V.a\nok\n= 0.25\n: none\n";
-    assert!(rt; answers(rt.alloc(), script, Status::SomeRefused, text)?);
-    Ok(())
-}
-
-/// The steps that the commands of these lines take.
-fn steps_of(alloc: Global, lines: &[&str]) -> Result<u64, Fail> {
-    let mut session = Session::open(alloc, ONE_VARSET.as_bytes())?;
-    let mut steps = Steps::new(());
-    for line in lines {
-        let command = Command::read(alloc, line)?;
-        let _ = session.step(&command, &mut steps)?;
-    }
-    Ok(steps.count())
-}
-
-#[test]
-fn recompute_counts_nodes(rt: HostRuntime) -> Result<(), Fail> {
-    assert_eq!(rt;
-        steps_of(rt.alloc(), &["bind V.a 1 + 2 * 3", "recompute"])?,
-        5
-    );
-    assert_eq!(rt;
-        steps_of(rt.alloc(), &["bind V.a true ? 1 : 2", "recompute"])?,
-        3
-    );
-    assert_eq!(rt;
-        steps_of(rt.alloc(), &["set V.a 1 + 2", "recompute", "get V.a"])?,
-        0
+    assert!(rt;
+        is_read(
+            rt.alloc(),
+            b"# a\r\nget V.a\r",
+            [Some("# a"), Some("get V.a\r"), None]
+        )?
     );
     Ok(())
 }
 
-/// The line of a value.
-fn line_of(alloc: Global, value: Value) -> Result<Vec<u8>, AllocError> {
-    Reply::Value(Ok(value)).write(alloc)
+fn is_line_of(alloc: Global, value: Value, want: &[u8]) -> Result<bool, AllocError> {
+    let line = Reply::Value(Ok(value)).write(alloc)?;
+    Ok(line.as_slice() == want)
 }
 
 #[test]
 fn writes_values(rt: HostRuntime) -> Result<(), Fail> {
-    let alloc = rt.alloc();
     let (_, unit) = unit_named("N").ok_or("no unit")?;
     let amount = Amount::of_raw(-1_500_000_000)?;
-    let force = line_of(alloc, Value::Number(Quantity { amount, unit }))?;
-    assert_eq!(rt; force.as_slice(), b"= -1.5 mm*kg*s^-2\n".as_slice());
-    let flag = line_of(alloc, Value::Flag(true))?;
-    assert_eq!(rt; flag.as_slice(), b"= true\n".as_slice());
-    let text = TextValue::read(alloc, "a \"b\" \\ c\n\r\t")?;
-    let text = line_of(alloc, Value::Text(text))?;
-    assert_eq!(rt;
-        text.as_slice(),
-        b"= \"a \\\"b\\\" \\\\ c\\n\\r\\t\"\n".as_slice()
-    );
+    let force = Value::Number(Quantity { amount, unit });
+    assert!(rt; is_line_of(rt.alloc(), force, b"= -1.5 mm*kg*s^-2\n")?);
+    assert!(rt; is_line_of(rt.alloc(), Value::Flag(true), b"= true\n")?);
+    let text = TextValue::read(rt.alloc(), "a \"b\" \\ c\n\r\t")?;
+    let line = b"= \"a \\\"b\\\" \\\\ c\\n\\r\\t\"\n";
+    assert!(rt; is_line_of(rt.alloc(), Value::Text(text), line)?);
     Ok(())
+}
+
+/// Whether a label that another object has is told so.
+fn is_line_of_label(alloc: Global, label: &str, want: &[u8]) -> Result<bool, Fail> {
+    let subject = TextValue::read(alloc, label)?;
+    let fault = OpenFault::Doc(DocFault { number: 6, subject });
+    Ok(fault.write(alloc)?.as_slice() == want)
 }
 
 #[test]
 fn writes_faults_of_documents(rt: HostRuntime) -> Result<(), Fail> {
-    let alloc = rt.alloc();
-    let subject = TextValue::read(alloc, "V")?;
-    let fault = OpenFault::Doc(DocFault { number: 6, subject });
-    let text = b"document refused 6 LabelTaken V\n";
-    assert_eq!(rt; fault.write(alloc)?.as_slice(), text.as_slice());
-    let subject = TextValue::of(String::new(alloc));
-    let fault = OpenFault::Doc(DocFault {
-        number: 29,
-        subject,
-    });
-    let text = b"document refused 29 TooMany\n";
-    assert_eq!(rt; fault.write(alloc)?.as_slice(), text.as_slice());
+    assert!(rt; is_line_of_label(rt.alloc(), "V", b"document refused 6 LabelTaken V\n")?);
+    assert!(rt; is_line_of_label(rt.alloc(), "", b"document refused 6 LabelTaken\n")?);
     Ok(())
 }

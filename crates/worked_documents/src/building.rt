@@ -55,7 +55,7 @@ fn own_path(alloc: Global, name: &Name) -> Result<Path, AllocError>
 }
 
 /// Adds a property of one slot.
-pub fn add_slot(
+fn add_slot(
     alloc: Global,
     tables: &mut Tables,
     object: &str,
@@ -97,7 +97,7 @@ pub fn slot_named(alloc: Global, tables: &Tables, object: &str, name: &str) -> R
 }
 
 /// Binds a slot to an expression.
-pub fn bind(
+fn bind(
     alloc: Global,
     tables: &mut Tables,
     object: &str,
@@ -169,4 +169,15 @@ pub fn add_line(alloc: Global, tables: &mut Tables, line: &str) -> Result<(), Fa
         return bind(alloc, tables, object, name, expression);
     }
     add_typed(alloc, tables, object, name, told)
+}
+
+/// Adds the Float of A whose name is `a` and a number, bound to an expression.
+pub fn add_numbered(
+    alloc: Global,
+    tables: &mut Tables,
+    number: u32,
+    expression: &str,
+) -> Result<(), Fail> {
+    let line = format!(in alloc; "A.a{number} Float = {expression}")?;
+    add_line(alloc, tables, line.as_str())
 }

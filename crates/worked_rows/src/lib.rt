@@ -1,5 +1,15 @@
-//! Rows worked out by hand, to which the public calls of the crates are held.
+//! Names, places, devices, numbers, paths and types, tried on rows worked out by hand.
 #![tactic(auto)]
 
 #[cfg(test)]
-mod expressions;
+mod addresses;
+#[cfg(test)]
+mod devices;
+#[cfg(test)]
+mod names;
+#[cfg(test)]
+mod numbers;
+#[cfg(test)]
+mod paths;
+#[cfg(test)]
+mod types;

@@ -1,5 +1,5 @@
 use Rattle.std.specs.List.{IsDistinct}
-use Rattle.worked_rows.proofs.expressions.replaces_no_reference_that_is_not_listed.Goals as goal
+use Rattle.worked_calls.proofs.grammar.replaces_no_reference_that_is_not_listed.Goals as goal
 
 -- nothing is listed
 pub map_paths-requires : goal.map_paths-requires

@@ -1,13 +1,12 @@
 //! How values fit types, the zeros of types, plans and outcomes.
 
 use arrayvec::ArrayString;
-use fc_base::{Name, SlotId, TextValue};
+use fc_base::{Name, TextValue};
 use property_types::{
-    FitFault, InputPlan, Outcome, Outcomes, OutputPlan, PropType, SlotPlan, Sort, Value,
-    ValueFault, copy_outcome,
+    FitFault, InputPlan, OutputPlan, PropType, SlotPlan, Sort, Value, ValueFault, copy_outcome,
 };
 use quantities::{Amount, Quantity};
-use std::alloc::Global;
+use std::alloc::{AllocError, Global};
 use std::test::Fail;
 use unit_signatures::{Unit, unit_named};
 
@@ -100,38 +99,48 @@ fn fits_numbers(rt: HostRuntime) -> Result<(), Fail> {
     Ok(())
 }
 
+/// Whether a type has this name, and numbers of this unit.
+fn is_named(name: &str, unit: &str) -> Result<bool, Fail> {
+    let prop = type_of(name)?;
+    if prop == PropType::Turn || prop == PropType::Placement {
+        return Err(Fail::new("no type of one slot"));
+    }
+    let Sort::Number(of) = prop.sort() else {
+        return Err(Fail::new("no type of numbers"));
+    };
+    let mut text = ArrayString::new();
+    of.write(&mut text);
+    Ok(text.as_str() == unit && prop.type_name() == name)
+}
+
 #[test]
 fn names_types_and_units(rt: HostRuntime) -> Result<(), Fail> {
     for (name, unit) in &UNITS {
-        let prop = type_of(name)?;
-        if prop == PropType::Turn || prop == PropType::Placement {
-            return Err(Fail::new("no type of one slot"));
-        }
-        assert_eq!(rt; prop.type_name(), *name);
-        let mut text = ArrayString::new();
-        match prop.sort() {
-            Sort::Number(of) => of.write(&mut text),
-            _ => return Err(Fail::new("no type of numbers")),
-        }
-        assert_eq!(rt; text.as_str(), *unit, "{name}");
+        assert!(rt; is_named(name, unit)?, "{name}");
     }
     assert!(rt; PropType::named("PropertyLength").is_none());
     Ok(())
 }
 
-#[test]
-fn gives_zeros(rt: HostRuntime) -> Result<(), Fail> {
-    let alloc = rt.alloc();
-    assert!(rt; PropType::Length.zero(alloc)? == number(0, "mm")?);
-    assert!(rt; PropType::Bool.zero(alloc)? == Value::Flag(false));
-    let empty = TextValue::read(alloc, "")?;
-    assert!(rt; PropType::String.zero(alloc)? == Value::Text(empty));
-    Ok(())
+fn is_zero(alloc: Global, prop: &PropType, want: &Value) -> Result<bool, AllocError> {
+    if *prop == PropType::Placement {
+        return Ok(false);
+    }
+    let zero = prop.zero(alloc)?;
+    Ok(zero == *want)
 }
 
 #[test]
-fn copies_plans(rt: HostRuntime) -> Result<(), Fail> {
-    let alloc = rt.alloc();
+fn gives_zeros(rt: HostRuntime) -> Result<(), Fail> {
+    let empty = Value::Text(TextValue::read(rt.alloc(), "")?);
+    assert!(rt; is_zero(rt.alloc(), &PropType::String, &empty)?);
+    assert!(rt; is_zero(rt.alloc(), &PropType::Bool, &Value::Flag(false))?);
+    assert!(rt; is_zero(rt.alloc(), &PropType::Length, &number(0, "mm")?)?);
+    Ok(())
+}
+
+/// A plan with a Length that is 100 mm and gives an Area.
+fn frame(alloc: Global) -> Result<SlotPlan, Fail> {
     let mut inputs = Vec::new(alloc);
     inputs.push(InputPlan {
         name: Name::read(alloc, "Width")?,
@@ -143,57 +152,26 @@ fn copies_plans(rt: HostRuntime) -> Result<(), Fail> {
         name: Name::read(alloc, "Opening")?,
         prop: PropType::Area,
     })?;
-    let plan = SlotPlan {
+    Ok(SlotPlan {
         type_name: TextValue::read(alloc, "Fc::Frame")?,
         inputs,
         outputs,
         placed: false,
         members: false,
-    };
-    let copy = plan.copy(alloc)?;
-    assert_eq!(rt; copy.type_name.as_str(), "Fc::Frame");
-    assert_eq!(rt; copy.inputs.len(), 1);
-    assert!(rt; copy.outputs[0].prop == PropType::Area);
+    })
+}
+
+#[test]
+fn copies_plans(rt: HostRuntime) -> Result<(), Fail> {
+    let copy = frame(rt.alloc())?.copy(rt.alloc())?;
+    assert!(rt; copy.type_name.as_str() == "Fc::Frame");
+    assert!(rt; copy.inputs.len() == 1 && copy.outputs.len() == 1);
     Ok(())
 }
 
 #[test]
 fn copies_texts(rt: HostRuntime) -> Result<(), Fail> {
-    let alloc = rt.alloc();
-    let text = Value::Text(TextValue::read(alloc, "a text")?);
-    match copy_outcome(alloc, &Ok(text))? {
-        Ok(Value::Text(text)) => assert_eq!(rt; text.as_str(), "a text"),
-        _ => return Err(Fail::new("no text")),
-    }
-    Ok(())
-}
-
-/// Outcomes of the first slots, by their numbers.
-#[derive(Drop)]
-struct FirstOutcomes {
-    outcomes: Vec<Outcome>,
-}
-
-impl Outcomes for FirstOutcomes {
-    ghost use Rattle.std.specs.Prelude.{slice_get};
-
-    ghost outcomes = { λ o slot. slice_get o.outcomes.items slot.0 };
-
-    fn outcome(&self, slot: SlotId) -> Option<&Outcome> {
-        self.outcomes.get(slot.0 as usize)
-    }
-}
-
-fn has_outcome<O: Outcomes>(outcomes: &O, slot: SlotId) -> bool {
-    outcomes.outcome(slot).is_some()
-}
-
-#[test]
-fn keeps_outcomes(rt: HostRuntime) -> Result<(), Fail> {
-    let mut outcomes = Vec::new(rt.alloc());
-    outcomes.push(Err(ValueFault::Range))?;
-    let kept = FirstOutcomes { outcomes };
-    assert!(rt; has_outcome(&kept, SlotId(0)));
-    assert!(rt; !has_outcome(&kept, SlotId(1)));
+    let outcome = Ok(Value::Text(TextValue::read(rt.alloc(), "a text")?));
+    assert!(rt; copy_outcome(rt.alloc(), &outcome)? == outcome);
     Ok(())
 }
