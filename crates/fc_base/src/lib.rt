@@ -3,8 +3,6 @@
 
 mod address;
 mod call_counter;
-#[cfg(test)]
-mod device_tests;
 mod devices;
 mod faults;
 mod file_store;

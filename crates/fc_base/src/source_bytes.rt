@@ -40,17 +40,3 @@ impl SourceBytes {
         self.bytes.as_slice()
     }
 }
-
-#[cfg(test)]
-mod tests {
-    use super::*;
-    use std::test::Fail;
-
-    #[test]
-    fn keeps_bytes(rt: HostRuntime) -> Result<(), Fail> {
-        let kept = SourceBytes::of(rt.alloc(), b"<a b=\"1\"/>")?;
-        assert_eq!(rt; kept.copy(rt.alloc())?.bytes(), kept.bytes());
-        assert_eq!(rt; kept.bytes().len(), 10);
-        Ok(())
-    }
-}

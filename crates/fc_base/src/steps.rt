@@ -47,16 +47,3 @@ impl<L> Steps<L> {
         self.count
     }
 }
-
-#[cfg(test)]
-mod tests {
-    use super::*;
-
-    #[test]
-    fn counts_steps(rt: HostRuntime) {
-        let mut steps = Steps::new("a ledger");
-        steps.tick();
-        steps.tick();
-        assert_eq!(rt; steps.count(), 2);
-    }
-}

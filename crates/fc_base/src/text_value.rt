@@ -145,39 +145,3 @@ impl Ord for TextValue {
         self.as_str().cmp(other.as_str())
     }
 }
-
-#[cfg(test)]
-mod tests {
-    use super::*;
-    use std::test::Fail;
-
-    #[test]
-    fn reads_text_values(rt: HostRuntime) -> Result<(), Fail> {
-        for text in ["", "a>>b", "tab\tand\r\nlines", "größe", "\u{7f}"] {
-            let value = TextValue::read(rt.alloc(), text)?;
-            assert_eq!(rt; value.as_str(), text);
-            assert!(rt; value.copy(rt.alloc())? == value, "a copy of {text}");
-        }
-        for text in ["\u{0}", "a\u{1b}b", "\u{b}"] {
-            let read = TextValue::read(rt.alloc(), text);
-            assert!(rt; matches!(read, Err(TextFault::BadText)));
-        }
-        Ok(())
-    }
-
-    #[test]
-    fn tries_the_length_before_the_bytes(rt: HostRuntime) -> Result<(), Fail> {
-        let mut text = String::new(rt.alloc());
-        for _ in 0..1024 {
-            text.push('x')?;
-        }
-        assert_eq!(rt;
-            TextValue::read(rt.alloc(), text.as_str())?.as_str().len(),
-            1024
-        );
-        text.push('\u{1}')?;
-        let read = TextValue::read(rt.alloc(), text.as_str());
-        assert!(rt; matches!(read, Err(TextFault::TooLong)));
-        Ok(())
-    }
-}
