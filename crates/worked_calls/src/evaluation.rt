@@ -115,7 +115,7 @@ fn billionths(alloc: Global, cells: u32, text: &str) -> Result<Result<i128, Valu
 }
 
 fn number(raw: i128) -> Result<Outcome, Fail> {
-    let amount = Amount::of_raw(raw).map_err(|_| "out of range")?;
+    let amount = Amount::of_raw(raw)?;
     Ok(Ok(Value::Number(Quantity {
         amount,
         unit: Unit::pure(),

@@ -24,8 +24,8 @@ fn lists_references(rt: HostRuntime) -> Result<(), Fail> {
     let listed = references(alloc, &tree)?;
     assert!(rt; listed.len() == 6);
     let wanted = ["a", "Box.b", "1..2", "<<My box>>.c", "d", "e"];
-    for (reference, want) in listed.iter().zip(wanted) {
-        assert!(rt; is_reference(alloc, reference, want)?, "{want}");
+    for place in 0..6 {
+        assert!(rt; is_reference(alloc, &listed[place], wanted[place])?);
     }
     Ok(())
 }

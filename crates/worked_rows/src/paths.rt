@@ -51,19 +51,25 @@ fn refuses_what_is_no_path(rt: HostRuntime) {
     }
 }
 
-/// Whether a slot of V is written so.
-fn is_written_outside(alloc: Global, slot: &SlotName, want: &str) -> Result<bool, Fail> {
+/// Whether the slot of V that a path names is written so.
+fn is_written_outside(alloc: Global, text: &str, want: &str) -> Result<bool, Fail> {
     let object = Name::read(alloc, "V")?;
-    Ok(slot_path(alloc, &object, slot)?.as_str() == want)
+    let path = Path::read(alloc, text)?;
+    Ok(slot_path(alloc, &object, &path.slot)?.as_str() == want)
+}
+
+/// Whether a cell of V without marks is written so.
+fn is_cell_written(alloc: Global, text: &str, want: &str) -> Result<bool, Fail> {
+    let object = Name::read(alloc, "V")?;
+    let cell = Address::read(text).ok_or("no address")?;
+    Ok(slot_path(alloc, &object, &SlotName::Marked(cell))?.as_str() == want)
 }
 
 #[test]
 fn writes_paths_from_outside(rt: HostRuntime) -> Result<(), Fail> {
-    let turn = Path::read(rt.alloc(), "Placement.Rotation.Turn")?;
-    assert!(rt; is_written_outside(rt.alloc(), &turn.slot, "V.Placement.Rotation.Turn")?);
-    let cell = Address::read("A5").ok_or("no address")?;
-    assert!(rt; is_written_outside(rt.alloc(), &SlotName::Marked(cell), "V.A5")?);
-    let cell = Address::read("$A$5").ok_or("no address")?;
-    assert!(rt; is_written_outside(rt.alloc(), &SlotName::Marked(cell), "V.$A$5")?);
+    let turn = "Placement.Rotation.Turn";
+    assert!(rt; is_written_outside(rt.alloc(), turn, "V.Placement.Rotation.Turn")?);
+    assert!(rt; is_written_outside(rt.alloc(), "$A$5", "V.$A$5")?);
+    assert!(rt; is_cell_written(rt.alloc(), "A5", "V.A5")?);
     Ok(())
 }

@@ -66,7 +66,7 @@ fn type_of(name: &str) -> Result<PropType, Fail> {
 }
 
 fn number(raw: i128, unit: &str) -> Result<Value, Fail> {
-    let amount = Amount::of_raw(raw).map_err(|_| "out of range")?;
+    let amount = Amount::of_raw(raw)?;
     let unit = if unit.is_empty() {
         Unit::pure()
     } else {
