@@ -5,3 +5,4 @@ pub mod HeadlineLemmas
 pub mod RepliesLemmas
 pub mod ScriptLemmas
 pub mod SessionLemmas
+pub mod SpellingLemmas

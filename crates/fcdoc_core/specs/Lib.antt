@@ -1,4 +1,5 @@
 pub mod Commands
+pub mod Spelling
 pub mod Delivery
 pub mod Files
 pub mod Headline

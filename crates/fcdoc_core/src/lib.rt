@@ -6,6 +6,7 @@ mod asking;
 mod command;
 mod cutting;
 mod delivery;
+pub mod laws;
 mod opening;
 mod plan;
 mod reading;

@@ -1,8 +1,9 @@
 //! Reads the lines of a script as commands.
 
-ghost use Rattle.std.specs.Prelude.{◌≡◌, []};
+ghost use Rattle.std.specs.Prelude.{◌≡◌, [], IfOk, IsErrOf};
 ghost use Rattle.std.specs.List.{list_any};
 ghost use Rattle.fcdoc_core.specs.Commands.{Reads, command_of, command_of_parts, is_by_name, is_control, is_plain, parts_of, path_alone, path_and_text, property_of};
+ghost use Rattle.fcdoc_core.specs.Spelling.{IsLineOf};
 
 use crate::command::{Command, CommandFault};
 use crate::cutting::{behind_word, first_word, unspaced};
@@ -109,7 +110,9 @@ impl Command {
     /// `recompute`. NotBuilt comes exactly where it is none of these, or has a control character
     /// other than tab.
     pub fn read(alloc: Global, line: &str) -> Result<Command, CommandFault>
-        ensures { Reads (command_of line.now) result }
+        ensures exact { Reads (command_of line.now) result }
+        ensures spelled { IfOk result (λ c. IsLineOf line.now c) }
+        ensures not_built { IsErrOf result CommandFault.NotBuilt → (c : Command) → IsLineOf line.now c → ⊥ }
     {
         if has_control(line) {
             return Err(CommandFault::NotBuilt);
