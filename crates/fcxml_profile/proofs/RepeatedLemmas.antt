@@ -52,7 +52,7 @@ among_inserted : (name : Bor (List ℕ)) (names : List (Bor (List ℕ))) (text :
 among_inserted name [] text new = refl
 among_inserted name (k ∷ ks) text new =
     elim (text_order name k) as (λ o. text_order name k ≡ o → (is_at (λ x. o) k || list_any (is_at (text_order name)) ks) ≡ false
-        → is_among text (texts (match_ordering o (name ∷ k ∷ ks) (k ∷ ks) (k ∷ insert_key text_order ks name))) ≡ is_among text (texts (k ∷ ks) ++ name.now ∷ [])) [
+    → is_among text (texts (match_ordering o (name ∷ k ∷ ks) (k ∷ ks) (k ∷ insert_key text_order ks name))) ≡ is_among text (texts (k ∷ ks) ++ name.now ∷ [])) [
       | Less ↦ λ _ new. sym (among_last text name.now (texts (k ∷ ks)) ∙ or_assoc (pointwise nat_eq text name.now) false (is_among text (texts (k ∷ ks))))
       | Equal ↦ λ _ new. absurd (cc)
       | Greater ↦ λ _ new. ap (λ b. pointwise nat_eq text k.now || b) (among_inserted name ks text new)
@@ -65,7 +65,7 @@ same_among seen others [] same = refl
 same_among seen others (a ∷ later) same =
     ap (λ b. cond b (Some a.place) (repeated_behind (seen ++ a.name ∷ []) later)) (same a.name)
     ∙ ap (cond (is_among a.name others) (Some a.place)) (same_among (seen ++ a.name ∷ []) (others ++ a.name ∷ []) later
-      (λ text. among_last text a.name seen ∙ ap (λ b. is_among text (a.name ∷ []) || b) (same text) ∙ sym (among_last text a.name others)))
+    (λ text. among_last text a.name seen ∙ ap (λ b. is_among text (a.name ∷ []) || b) (same text) ∙ sym (among_last text a.name others)))
 
 module _ (seen new : List (Bor (List ℕ))) (value : Bor (List ℕ)) (a : Attribute) (later : List Attribute) (all : Option ℕ) (added : Bool)
     (is_added : added ≡ not (list_any (is_at (text_order value)) seen)) (keys : new ≡ insert_key text_order seen value) (is_name : value.now ≡ a.name)
@@ -83,7 +83,7 @@ module _ (seen new : List (Bor (List ℕ))) (value : Bor (List ℕ)) (a : Attrib
       let none = not_true (list_any (is_at (text_order value)) seen) (sym is_added ∙ fresh) in
       ap (λ (ks : List (Bor (List ℕ))). repeated_behind (texts ks) later) keys
       ∙ same_among (texts (insert_key text_order seen value)) (texts seen ++ a.name ∷ []) later
-        (λ text. among_inserted value seen text none ∙ ap (λ (n : List ℕ). is_among text (texts seen ++ n ∷ [])) is_name)
+      (λ text. among_inserted value seen text none ∙ ap (λ (n : List ℕ). is_among text (texts seen ++ n ∷ [])) is_name)
       ∙ chosen false none
 
   -- the name was seen
