@@ -2,6 +2,7 @@ mod FrontLemmas
 mod Shorter
 mod AttributeLemmas
 mod ItemLemmas
+mod ItemLaws
 mod ValueLemmas
 mod NumberLemmas
 mod ReferenceLemmas

@@ -1,5 +1,6 @@
 pub mod Fronts
 pub mod Items
+pub mod Spelled
 pub mod ToldAttributes
 pub mod Told
 pub mod Standing

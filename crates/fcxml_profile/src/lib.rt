@@ -6,6 +6,7 @@ mod examining;
 mod fault;
 mod fronts;
 mod items;
+pub mod laws;
 mod reading;
 mod references;
 mod repeated;
