@@ -7,11 +7,11 @@ use Rattle.std.proofs.lemmas.List.{length-take-le}
 use Rattle.std.proofs.lemmas.List.Sums.{prefix_len-le-length}
 use Rattle.std.proofs.lemmas.Bool.Decides.{nat_tests}
 use Rattle.std.proofs.Math.Seq.{take-append_seam, drop-append_seam}
-use Rattle.fcxml_profile.specs.Fronts.{with_byte, ◌>>=◌, is_blank, after_blanks, begins_name, continues_name, name_length, cut_at, name_at, after, behind, split_at, cut_quoted, quoted_at, without_markup, value_at}
+use Rattle.fcxml_profile.specs.Fronts.{with_byte, is_blank, after_blanks, begins_name, continues_name, name_length, cut_at, name_at, after, behind, split_at, cut_quoted, quoted_at, without_markup, value_at}
 use Rattle.fcxml_profile.specs.Items.{Attribute, Tag, Item, declaration, comment, opening, closing, run, run_length, with_rest, closing_cut, opening_cut, attribute_at, attribute_behind_blanks, attributes_within, attributes_at, and_more, tag_end_at, tag_at, end_tag_at, markup_of, markup_at, item_at}
 use Rattle.fcxml_profile.specs.Spelled.{AreBlanks, IsName, Lacks, SpellsValue, SpellsAttribute, SpellsAttributes, tag_end, SpellsTag, EndsAtFirst, SpellsEndTag, begins_markup, SpellsItem}
 use Rattle.fcxml_profile.proofs.FrontLemmas.{after-append, after_some, behind-first, IsWithout, split_at-append}
-use Rattle.fcxml_profile.proofs.Shorter.{bind_some, cond_none, map_some}
+use Rattle.fcxml_profile.proofs.Shorter.{bind_some, goes, not_true, cond_none, map_some}
 use Rattle.fcxml_profile.proofs.AttributeLemmas.{behind_attributes, attributes-more, attributes-end}
 
 -- ---- what is spelled is read
@@ -20,10 +20,6 @@ use Rattle.fcxml_profile.proofs.AttributeLemmas.{behind_attributes, attributes-m
 abbrev fails_front : (ℕ → Bool) → List ℕ → Bool
 fails_front p [] = true
 fails_front p (c ∷ cs) = not (p c)
-
-not_true : (b : Bool) → not b ≡ true → b ≡ false
-not_true true e = absurd (cc)
-not_true false e = refl
 
 -- the front that passes is as long as it is spelled
 prefix_whole : (p : ℕ → Bool) (xs ys : List ℕ) → list_all p xs ≡ true → fails_front p ys ≡ true → prefix_len p (xs ++ ys) ≡ length xs
@@ -60,9 +56,6 @@ name_no_blank c e = grind (arith, nat_tests)
 without : (byte : ℕ) (text : List ℕ) → Lacks byte text → IsWithout byte text
 without byte [] lacks = tt
 without byte (c ∷ cs) lacks = let parts = or_parts (eqb c byte) (list_any (λ b. eqb b byte) cs) lacks in (parts.0, without byte cs parts.1)
-
-goes : {A B : Type 0} (o : Option A) (f : A → Option B) (x : A) (y : Option B) → o ≡ Some x → f x ≡ y → (o >>= f) ≡ y
-goes o f x y found next = ap (λ z. z >>= f) found ∙ next
 
 value_quoted : (text value rest : List ℕ) (quote : ℕ) → (quote ≡ 34) ⊎ (quote ≡ 39) → text ≡ quote ∷ (value ++ quote ∷ rest) → Lacks quote value → quoted_at text ≡ Some (value, rest)
 unfolding quoted_at after

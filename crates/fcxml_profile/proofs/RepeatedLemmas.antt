@@ -10,6 +10,7 @@ use Rattle.std.specs.Cmp.Lexicographic.{pointwise, slice_cmp, texts_ties}
 use Rattle.std.specs.BTreeSet.{insert_key}
 use Rattle.std.specs.BTreeMap.{is_at}
 use Rattle.std.proofs.lemmas.List.Folds.{list_any-append}
+use Rattle.fcxml_profile.proofs.Shorter.{not_true}
 use Rattle.fcxml_profile.specs.Items.{Attribute}
 use Rattle.fcxml_profile.specs.Standing.{is_among, repeated_behind}
 
@@ -29,10 +30,6 @@ or_comm false false = refl
 or_assoc : (a b c : Bool) → ((a || b) || c) ≡ (a || (b || c))
 or_assoc true b c = refl
 or_assoc false b c = refl
-
-not_true : (b : Bool) → not b ≡ true → b ≡ false
-not_true true e = absurd (cc)
-not_true false e = refl
 
 not_false : (b : Bool) → not b ≡ false → b ≡ true
 not_false true e = refl

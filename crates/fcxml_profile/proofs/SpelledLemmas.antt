@@ -1,5 +1,5 @@
 -- Tags that a text spells in front are read, and lead to what stands behind them.
-use Rattle.std.proofs.Common.{◌≡◌, ℕ, ◌-◌, Bool, true, false, cond, not, ◌&&◌, ◌||◌, List, [], ◌∷◌, ◌++◌, length, map, codes, Option, None, Some, refl, ap, ◌∙◌, eqb, ltb}
+use Rattle.std.proofs.Common.{◌≡◌, ℕ, ◌-◌, Bool, true, false, cond, not, ◌&&◌, ◌||◌, List, [], ◌∷◌, ◌++◌, length, map, codes, None, Some, refl, ap, ◌∙◌, eqb, ltb}
 use Rattle.std.specs.Prelude.{is_none}
 use Rattle.std.specs.List.{list_any, prefix_len}
 use Rattle.std.proofs.lemmas.Bool.{or_parts}
@@ -39,9 +39,6 @@ item_leads s n text item rest read stands =
     ap (λ found. fault_behind (behind_items s found) n (rest_behind text found)) (standing-more s n text (item, rest) both)
 
 -- ---- attributes
-
-goes : {A B : Type 0} (o : Option A) (f : A → Option B) (x : A) (y : Option B) → o ≡ Some x → f x ≡ y → (o >>= f) ≡ y
-goes o f x y found next = ap (λ z. z >>= f) found ∙ next
 
 -- the names of the attributes in front of a text, and what follows them
 pub record HasAttributes (n : ℕ) (text : List ℕ) (names : List (List ℕ)) (rest : List ℕ) : Type 0 where
