@@ -34,224 +34,52 @@ const POWER: [i8; 8] = [2, 1, -3, 0, 0, 0, 0, 0];
 /// s^-1
 const FREQUENCY: [i8; 8] = [0, 0, -1, 0, 0, 0, 0, 0];
 
-/// A named unit: how many billionths of a base unit it is, and the exponents of that.
-struct NamedUnit {
-    name: &'static str,
-    factor: i128,
-    exponents: [i8; 8],
-}
+/// A named unit: its name, how many billionths of a base unit it is, and the exponents of that.
+type NamedUnit = (&'static str, i128, [i8; 8]);
 
 static UNITS: [NamedUnit; 42] = [
-    NamedUnit {
-        name: "nm",
-        factor: 1_000,
-        exponents: LENGTH,
-    },
-    NamedUnit {
-        name: "um",
-        factor: 1_000_000,
-        exponents: LENGTH,
-    },
-    NamedUnit {
-        name: "mm",
-        factor: 1_000_000_000,
-        exponents: LENGTH,
-    },
-    NamedUnit {
-        name: "cm",
-        factor: 10_000_000_000,
-        exponents: LENGTH,
-    },
-    NamedUnit {
-        name: "dm",
-        factor: 100_000_000_000,
-        exponents: LENGTH,
-    },
-    NamedUnit {
-        name: "m",
-        factor: 1_000_000_000_000,
-        exponents: LENGTH,
-    },
-    NamedUnit {
-        name: "km",
-        factor: 1_000_000_000_000_000,
-        exponents: LENGTH,
-    },
-    NamedUnit {
-        name: "in",
-        factor: 25_400_000_000,
-        exponents: LENGTH,
-    },
-    NamedUnit {
-        name: "ft",
-        factor: 304_800_000_000,
-        exponents: LENGTH,
-    },
-    NamedUnit {
-        name: "yd",
-        factor: 914_400_000_000,
-        exponents: LENGTH,
-    },
-    NamedUnit {
-        name: "thou",
-        factor: 25_400_000,
-        exponents: LENGTH,
-    },
-    NamedUnit {
-        name: "mg",
-        factor: 1_000,
-        exponents: MASS,
-    },
-    NamedUnit {
-        name: "g",
-        factor: 1_000_000,
-        exponents: MASS,
-    },
-    NamedUnit {
-        name: "kg",
-        factor: 1_000_000_000,
-        exponents: MASS,
-    },
-    NamedUnit {
-        name: "t",
-        factor: 1_000_000_000_000,
-        exponents: MASS,
-    },
-    NamedUnit {
-        name: "s",
-        factor: 1_000_000_000,
-        exponents: TIME,
-    },
-    NamedUnit {
-        name: "min",
-        factor: 60_000_000_000,
-        exponents: TIME,
-    },
-    NamedUnit {
-        name: "h",
-        factor: 3_600_000_000_000,
-        exponents: TIME,
-    },
-    NamedUnit {
-        name: "A",
-        factor: 1_000_000_000,
-        exponents: CURRENT,
-    },
-    NamedUnit {
-        name: "mA",
-        factor: 1_000_000,
-        exponents: CURRENT,
-    },
-    NamedUnit {
-        name: "kA",
-        factor: 1_000_000_000_000,
-        exponents: CURRENT,
-    },
-    NamedUnit {
-        name: "K",
-        factor: 1_000_000_000,
-        exponents: TEMPERATURE,
-    },
-    NamedUnit {
-        name: "mK",
-        factor: 1_000_000,
-        exponents: TEMPERATURE,
-    },
-    NamedUnit {
-        name: "mol",
-        factor: 1_000_000_000,
-        exponents: AMOUNT_OF_SUBSTANCE,
-    },
-    NamedUnit {
-        name: "mmol",
-        factor: 1_000_000,
-        exponents: AMOUNT_OF_SUBSTANCE,
-    },
-    NamedUnit {
-        name: "cd",
-        factor: 1_000_000_000,
-        exponents: LUMINOUS_INTENSITY,
-    },
-    NamedUnit {
-        name: "deg",
-        factor: 1_000_000_000,
-        exponents: ANGLE,
-    },
-    NamedUnit {
-        name: "gon",
-        factor: 900_000_000,
-        exponents: ANGLE,
-    },
-    NamedUnit {
-        name: "l",
-        factor: 1_000_000_000_000_000,
-        exponents: VOLUME,
-    },
-    NamedUnit {
-        name: "ml",
-        factor: 1_000_000_000_000,
-        exponents: VOLUME,
-    },
-    NamedUnit {
-        name: "mN",
-        factor: 1_000_000_000,
-        exponents: FORCE,
-    },
-    NamedUnit {
-        name: "N",
-        factor: 1_000_000_000_000,
-        exponents: FORCE,
-    },
-    NamedUnit {
-        name: "kN",
-        factor: 1_000_000_000_000_000,
-        exponents: FORCE,
-    },
-    NamedUnit {
-        name: "Pa",
-        factor: 1_000_000,
-        exponents: PRESSURE,
-    },
-    NamedUnit {
-        name: "kPa",
-        factor: 1_000_000_000,
-        exponents: PRESSURE,
-    },
-    NamedUnit {
-        name: "MPa",
-        factor: 1_000_000_000_000,
-        exponents: PRESSURE,
-    },
-    NamedUnit {
-        name: "GPa",
-        factor: 1_000_000_000_000_000,
-        exponents: PRESSURE,
-    },
-    NamedUnit {
-        name: "J",
-        factor: 1_000_000_000_000_000,
-        exponents: ENERGY,
-    },
-    NamedUnit {
-        name: "W",
-        factor: 1_000_000_000_000_000,
-        exponents: POWER,
-    },
-    NamedUnit {
-        name: "Hz",
-        factor: 1_000_000_000,
-        exponents: FREQUENCY,
-    },
-    NamedUnit {
-        name: "kHz",
-        factor: 1_000_000_000_000,
-        exponents: FREQUENCY,
-    },
-    NamedUnit {
-        name: "MHz",
-        factor: 1_000_000_000_000_000,
-        exponents: FREQUENCY,
-    },
+    ("nm", 1_000, LENGTH),
+    ("um", 1_000_000, LENGTH),
+    ("mm", 1_000_000_000, LENGTH),
+    ("cm", 10_000_000_000, LENGTH),
+    ("dm", 100_000_000_000, LENGTH),
+    ("m", 1_000_000_000_000, LENGTH),
+    ("km", 1_000_000_000_000_000, LENGTH),
+    ("in", 25_400_000_000, LENGTH),
+    ("ft", 304_800_000_000, LENGTH),
+    ("yd", 914_400_000_000, LENGTH),
+    ("thou", 25_400_000, LENGTH),
+    ("mg", 1_000, MASS),
+    ("g", 1_000_000, MASS),
+    ("kg", 1_000_000_000, MASS),
+    ("t", 1_000_000_000_000, MASS),
+    ("s", 1_000_000_000, TIME),
+    ("min", 60_000_000_000, TIME),
+    ("h", 3_600_000_000_000, TIME),
+    ("A", 1_000_000_000, CURRENT),
+    ("mA", 1_000_000, CURRENT),
+    ("kA", 1_000_000_000_000, CURRENT),
+    ("K", 1_000_000_000, TEMPERATURE),
+    ("mK", 1_000_000, TEMPERATURE),
+    ("mol", 1_000_000_000, AMOUNT_OF_SUBSTANCE),
+    ("mmol", 1_000_000, AMOUNT_OF_SUBSTANCE),
+    ("cd", 1_000_000_000, LUMINOUS_INTENSITY),
+    ("deg", 1_000_000_000, ANGLE),
+    ("gon", 900_000_000, ANGLE),
+    ("l", 1_000_000_000_000_000, VOLUME),
+    ("ml", 1_000_000_000_000, VOLUME),
+    ("mN", 1_000_000_000, FORCE),
+    ("N", 1_000_000_000_000, FORCE),
+    ("kN", 1_000_000_000_000_000, FORCE),
+    ("Pa", 1_000_000, PRESSURE),
+    ("kPa", 1_000_000_000, PRESSURE),
+    ("MPa", 1_000_000_000_000, PRESSURE),
+    ("GPa", 1_000_000_000_000_000, PRESSURE),
+    ("J", 1_000_000_000_000_000, ENERGY),
+    ("W", 1_000_000_000_000_000, POWER),
+    ("Hz", 1_000_000_000, FREQUENCY),
+    ("kHz", 1_000_000_000_000, FREQUENCY),
+    ("MHz", 1_000_000_000_000_000, FREQUENCY),
 ];
 
 /// The factor of a named unit, in billionths of a base unit, and its unit; none exactly where the
@@ -267,10 +95,10 @@ fn look_up(units: &[NamedUnit], name: &str) -> Option<(i128, Unit)>
     requires { IsTrue (list_all has_unit units.now) }
     ensures { result ≡ look_up name.now (map row_of units.now) }
 {
-    for unit in units {
-        if unit.name == name {
-            let exponents = unit.exponents;
-            return Some((unit.factor, Unit { exponents }));
+    for (named, factor, exponents) in units {
+        if *named == name {
+            let exponents = *exponents;
+            return Some((*factor, Unit { exponents }));
         }
     }
     None

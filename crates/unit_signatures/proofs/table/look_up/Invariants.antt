@@ -4,5 +4,5 @@ use Rattle.unit_signatures.specs.Table.{look_up}
 use Rattle.unit_signatures.proofs.table.look_up.Given as goal
 
 -- what the rows that are left give is what all give
-abbrev pub invariant-loop-unit : goal.invariant-loop-unit
-invariant-loop-unit l = look_up l.name (map row_of (drop l.unit-index l.units)) ≡ look_up l.name (map row_of l.units)
+abbrev pub invariant-loop-named : goal.invariant-loop-named
+invariant-loop-named l = look_up l.name (map row_of (drop l.named-index l.units)) ≡ look_up l.name (map row_of l.units)

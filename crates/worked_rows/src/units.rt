@@ -1,5 +1,7 @@
-use super::*;
+//! Named units, their products, quotients and powers, and their texts.
+
 use arrayvec::ArrayString;
+use unit_signatures::{ExponentRange, Unit, unit_named};
 
 /// Names, factors in billionths of a base unit, and units.
 static NAMED: [(&str, i128, &str); 42] = [
