@@ -1,7 +1,8 @@
 -- The tests of units, quantities, values and sorts are equality: each part's test is, and a part
 -- that differs makes the whole differ.
-use Rattle.std.proofs.Common.{◌≡◌, Bool, true, false, ◌&&◌, refl, ap}
+use Rattle.std.proofs.Common.{◌≡◌, Bool, true, false, refl, ap}
 use Rattle.std.specs.Bool.{Decides}
+use Rattle.std.proofs.lemmas.Bool.{and_parts, and_from}
 use Rattle.std.specs.Cmp.{signed_Decides}
 use Rattle.std.specs.Cmp.Rules.{signed_items}
 use Rattle.std.specs.Cmp.Lexicographic.{bytes_decides}
@@ -14,22 +15,14 @@ use Rattle.property_types.specs.declared.prop_type.Sort.TheVariants as s
 use Rattle.property_types.specs.Values.{same_unit, same_quantity, same_flag, same_value}
 use Rattle.property_types.specs.Sorts.{same_sort}
 
--- a conjunction holds where its parts do
-both_true : (a b : Bool) → (a && b) ≡ true → (a ≡ true) × (b ≡ true)
-both_true true b h = (refl, h)
-both_true false b h = absurd (cc)
-
-joined_true : (a b : Bool) → a ≡ true → b ≡ true → (a && b) ≡ true
-joined_true a b p q = cc
-
 quantity_equal : (a b : Quantity) → Decides (same_quantity a b) (a ≡ b)
 quantity_equal a b =
     let amounts = signed_Decides a.amount b.amount in
     let units = signed_items a.unit b.unit in (
       λ h.
-          let parts = both_true (int_eq a.amount b.amount) (same_unit a.unit b.unit) h in
+          let parts = and_parts (int_eq a.amount b.amount) (same_unit a.unit b.unit) h in
           λ i. record { amount = amounts.0 parts.0 i; unit = units.0 parts.1 i },
-      λ e. joined_true _ _ (amounts.1 (ap (λ (q : Quantity). q.amount) e)) (units.1 (ap (λ (q : Quantity). q.unit) e)),
+      λ e. and_from _ _ (amounts.1 (ap (λ (q : Quantity). q.amount) e)) (units.1 (ap (λ (q : Quantity). q.unit) e)),
     )
 
 flag_equal : (a b : Bool) → Decides (same_flag a b) (a ≡ b)

@@ -5,7 +5,7 @@ ghost use Rattle.property_types.specs.Types.{is_whole_type};
 
 use crate::prop_type::{PropType, Sort};
 use crate::value::{Value, ValueFault};
-use quantities::{Amount, Quantity};
+use quantities::{Amount, ONE_RAW, Quantity};
 use std::alloc::{AllocError, Global};
 use thiserror::Error;
 use unit_signatures::Unit;
@@ -19,9 +19,6 @@ pub enum FitFault {
     #[error("out of memory")]
     Memory(AllocError),
 }
-
-/// One, in billionths.
-const ONE: i128 = 1_000_000_000;
 
 impl PropType {
     /// The value as one of the type. It is meant for values of the type's sort, and for pure numbers
@@ -48,7 +45,7 @@ impl PropType {
     fn fit_amount(&self, amount: Amount, unit: Unit) -> Result<Value, ValueFault>
         ensures { result ≡ fit_amount self.now amount unit }
     {
-        if self.is_whole() && amount.raw() % ONE != 0 {
+        if self.is_whole() && amount.raw() % ONE_RAW != 0 {
             return Err(ValueFault::NotWhole);
         }
         if self.has_in_range(amount.raw()) {
@@ -70,8 +67,8 @@ impl PropType {
         ensures { result ≡ is_in_range self.now raw }
     {
         match self {
-            PropType::Percent => 0 <= raw && raw <= 100 * ONE,
-            PropType::Turn => 0 <= raw && raw <= 23 * ONE,
+            PropType::Percent => 0 <= raw && raw <= 100 * ONE_RAW,
+            PropType::Turn => 0 <= raw && raw <= 23 * ONE_RAW,
             PropType::Length | PropType::Area | PropType::Volume => 0 <= raw,
             _ => true,
         }

@@ -1,4 +1,4 @@
-ghost use Rattle.std.specs.Prelude.{◌≡◌, ◌≢◌, pos, IfOk, IsTrue};
+ghost use Rattle.std.specs.Prelude.{◌≡◌, ◌≢◌, IfOk, IsTrue};
 ghost use Rattle.std.specs.List.{list_all};
 ghost use Rattle.unit_signatures.specs.Units.{is_exponent};
 ghost use Rattle.property_types.specs.declared.prop_type.PropType.TheVariants.{Turn, Placement};
@@ -7,12 +7,12 @@ ghost use Rattle.property_types.specs.Types.{sort_of_type, type_name_of, type_na
 
 use crate::value::Value;
 use fc_base::TextValue;
-use quantities::{Amount, Quantity, Range};
+use quantities::{Amount, Quantity};
 use std::alloc::{AllocError, Global};
 use unit_signatures::Unit;
 
 /// The type of a property. `Turn` is the type of a placement's quarter turn, and of no property.
-#[derive(Debug, PartialEq, Eq, Drop)]
+#[derive(Clone, Copy, Debug, PartialEq, Eq)]
 pub enum PropType {
     Float,
     Integer,
@@ -130,7 +130,7 @@ impl PropType {
     {
         Ok(match self.sort() {
             Sort::Number(unit) => Value::Number(Quantity {
-                amount: zero_amount(),
+                amount: Amount::zero(),
                 unit,
             }),
             Sort::Flag => Value::Flag(false),
@@ -142,36 +142,7 @@ impl PropType {
     pub fn copy(&self, _alloc: Global) -> Result<PropType, AllocError>
         ensures { IfOk result (λ prop. prop ≡ self.now) }
     {
-        Ok(match self {
-            PropType::Float => PropType::Float,
-            PropType::Integer => PropType::Integer,
-            PropType::Percent => PropType::Percent,
-            PropType::Bool => PropType::Bool,
-            PropType::String => PropType::String,
-            PropType::Length => PropType::Length,
-            PropType::Distance => PropType::Distance,
-            PropType::Angle => PropType::Angle,
-            PropType::Area => PropType::Area,
-            PropType::Volume => PropType::Volume,
-            PropType::Mass => PropType::Mass,
-            PropType::Time => PropType::Time,
-            PropType::Speed => PropType::Speed,
-            PropType::Force => PropType::Force,
-            PropType::Pressure => PropType::Pressure,
-            PropType::Density => PropType::Density,
-            PropType::Placement => PropType::Placement,
-            PropType::Turn => PropType::Turn,
-        })
-    }
-}
-
-/// 0.
-fn zero_amount() -> Amount
-    ensures { result ≡ pos 0 }
-{
-    match Amount::of_raw(0) {
-        Ok(zero) => zero,
-        Err(Range) => unreachable!(),
+        Ok(*self)
     }
 }
 

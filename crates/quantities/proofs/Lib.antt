@@ -1,6 +1,7 @@
 pub mod DecimalLemmas
 pub mod Digits
 pub mod Nearest
+pub mod Nearness
 pub mod Powers
 pub mod Products
 pub mod ReadLemmas

@@ -16,6 +16,9 @@ use thiserror::Error;
 #[error("the number is out of range")]
 pub struct Range;
 
+/// The raw number of 1: so many billionths are one.
+pub const ONE_RAW: i128 = 1_000_000_000;
+
 /// The greatest raw number of an amount.
 pub const GREATEST: u128 = 10_000_000_000_000_000_000_000_000_000;
 
@@ -40,11 +43,18 @@ impl Model for Amount {
 }
 
 impl Amount {
+    /// 0.
+    pub const fn zero() -> Amount
+        ensures { result ≡ pos 0 }
+    {
+        Amount { raw: 0 }
+    }
+
     /// 1.
-    pub(crate) fn one() -> Amount
+    pub(crate) const fn one() -> Amount
         ensures { result ≡ pos billion }
     {
-        Amount { raw: 1_000_000_000 }
+        Amount { raw: ONE_RAW }
     }
 
     /// The amount of so many billionths; `Range` exactly where they are more than 10^28 on one side

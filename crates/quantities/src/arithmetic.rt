@@ -3,7 +3,7 @@ ghost use Rattle.quantities.specs.Amounts.{greatest, signed};
 ghost use Rattle.quantities.specs.Texts.{billion};
 ghost use Rattle.quantities.specs.Arithmetic.{bounded, ceil, floor, minus, modulo, near, nearest, over, plus, power, repeated, round, times, trunc, whole_above, whole_below};
 
-use crate::amount::{Amount, GREATEST};
+use crate::amount::{Amount, GREATEST, ONE_RAW};
 use crate::amount_fault::AmountFault;
 use crate::texts::{BILLION, with_sign};
 
@@ -28,7 +28,7 @@ impl Amount {
         ensures { result ≡ times self.now other.now }
     {
         match self.raw().checked_mul(other.raw()) {
-            Some(product) => rounded(product, ONE),
+            Some(product) => rounded(product, ONE_RAW),
             // A product of more than 127 bits is above 10^37, and its amount above 10^28.
             None => Err(AmountFault::Range),
         }
@@ -42,7 +42,7 @@ impl Amount {
         if other.raw() == 0 {
             return Err(AmountFault::DivideByZero);
         }
-        rounded(self.raw() * ONE, other.raw())
+        rounded(self.raw() * ONE_RAW, other.raw())
     }
 
     /// The remainder of the division, with the sign of the dividend, exactly; `DivideByZero` exactly
@@ -135,9 +135,6 @@ fn whole_above(magnitude: u128) -> u128
 {
     magnitude.div_ceil(BILLION) * BILLION
 }
-
-/// One, in billionths.
-const ONE: i128 = 1_000_000_000;
 
 /// The amount of so many billionths.
 fn within_bound(raw: i128) -> Result<Amount, AmountFault>

@@ -5,11 +5,12 @@ ghost use Rattle.quantities.specs.Amounts.{greatest, signed};
 ghost use Rattle.quantities.specs.Texts.{billion, digits_below, without_final_zeros};
 ghost use Rattle.quantities.specs.Digits.{number_after, begins_with_minus};
 
+use crate::amount::ONE_RAW;
 use arrayvec::ArrayString;
 use itoa::Buffer;
 
 /// So many billionths are one.
-pub const BILLION: u128 = 1_000_000_000;
+pub const BILLION: u128 = ONE_RAW as u128;
 
 /// Writes the sign and the whole part of so many billionths.
 pub fn push_whole(negative: bool, magnitude: u128, out: &mut ArrayString<32>)
