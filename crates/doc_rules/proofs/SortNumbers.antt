@@ -11,8 +11,8 @@ use Rattle.property_types.specs.declared.prop_type.PropType.{PropType}
 use Rattle.property_types.specs.declared.prop_type.Sort.{Sort}
 use Rattle.property_types.specs.declared.value.Value.{Value}
 use Rattle.property_types.specs.Types.{sort_of_type}
-use Rattle.expr_grammar.specs.References.{Reference, references}
-use Rattle.expr_grammar.specs.Tree.{Tree}
+use Rattle.expr_tree.specs.References.{Reference, references}
+use Rattle.expr_tree.specs.Tree.{Tree}
 use Rattle.expr_eval.specs.declared.sort_cause.SortCause.TheVariants.{KindMismatch}
 use Rattle.expr_eval.specs.SortRows.{SortOutcome}
 use Rattle.expr_eval.specs.Sorts.{sort_of}

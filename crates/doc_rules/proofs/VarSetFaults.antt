@@ -13,8 +13,8 @@ use Rattle.object_paths.specs.Slots.{Slot, same_text}
 use Rattle.property_types.specs.declared.prop_type.PropType.{PropType}
 use Rattle.property_types.specs.declared.prop_type.PropType.TheVariants as prop
 use Rattle.expr_grammar.specs.Large.{is_too_large}
-use Rattle.expr_grammar.specs.References.{Reference, to_path, to_area, references}
-use Rattle.expr_grammar.specs.Tree.{Tree}
+use Rattle.expr_tree.specs.References.{Reference, to_path, to_area, references}
+use Rattle.expr_tree.specs.Tree.{Tree}
 use Rattle.document_model.specs.declared.content.Content.{Content}
 use Rattle.document_model.specs.declared.kind.ObjectKind.{ObjectKind}
 use Rattle.document_model.specs.declared.kind.ObjectKind.TheVariants.{VarSet}

@@ -7,8 +7,8 @@ use Rattle.property_types.specs.declared.value.Value.{Value}
 use Rattle.property_types.specs.declared.value.ValueFault.TheVariants.{Range}
 use Rattle.property_types.specs.Values.{Outcome}
 use Rattle.expr_grammar.specs.declared.fault.ExprFault.{ExprFault}
-use Rattle.expr_grammar.specs.Parse.{expression_of, closed_expression_of}
-use Rattle.expr_grammar.specs.Tree.{Tree}
+use Rattle.expr_grammar.specs.Parse.{expression_in, closed_expression_in}
+use Rattle.expr_tree.specs.Tree.{Tree}
 use Rattle.expr_eval.specs.declared.sort_cause.SortCause.{SortCause}
 use Rattle.expr_eval.specs.declared.sort_cause.SortCause.TheVariants.{KindMismatch}
 use Rattle.expr_eval.specs.Firsts.{on_one}
@@ -108,8 +108,8 @@ set_to d s found = on_one (λ v. accepted (with_content d s (Own v))) (value_rea
 -- the document behind an edit, or the first reason why it is refused: that its path names nothing
 -- comes first, and a fault of the edited document last
 unfoldable pub edited : Document → Edit → Result Accepted Refusal
-edited d (SetValue path text) = on_one (λ s. set_to d s (closed_expression_of text)) (slot_commanded d path)
-edited d (Bind path text) = on_one (λ s. bound_to d s (expression_of text)) (slot_commanded d path)
+edited d (SetValue path text) = on_one (λ s. set_to d s (closed_expression_in text)) (slot_commanded d path)
+edited d (Bind path text) = on_one (λ s. bound_to d s (expression_in text)) (slot_commanded d path)
 
 -- ---- how calls tell it
 

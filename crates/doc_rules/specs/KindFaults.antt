@@ -5,7 +5,7 @@ use Rattle.std.specs.Option.{option_and_then, option_map_or}
 use Rattle.fc_base.specs.declared.ids.SlotId.{SlotId}
 use Rattle.object_paths.specs.Slots.{Slot}
 use Rattle.expr_grammar.specs.Large.{is_too_large}
-use Rattle.expr_grammar.specs.Tree.{Tree}
+use Rattle.expr_tree.specs.Tree.{Tree}
 use Rattle.document_model.specs.Document.{Document, Object}
 use Rattle.document_model.specs.Slots.{rule_of, type_of}
 use Rattle.doc_tables.specs.Accessors.{slots_reached, tree_by}

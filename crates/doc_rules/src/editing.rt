@@ -3,8 +3,8 @@ ghost use Rattle.property_types.specs.declared.prop_type.PropType.TheVariants.{P
 ghost use Rattle.object_paths.specs.Slots.{Slot};
 ghost use Rattle.expr_eval.specs.Outcomes.{outcome_of};
 ghost use Rattle.expr_eval.specs.Sorts.{sort_of};
-ghost use Rattle.expr_grammar.specs.Parse.{closed_expression_of, expression_of};
-ghost use Rattle.expr_grammar.specs.References.{reference_count};
+ghost use Rattle.expr_grammar.specs.Parse.{closed_expression_in, expression_in};
+ghost use Rattle.expr_tree.specs.References.{reference_count};
 ghost use Rattle.document_model.specs.Document.{Document};
 ghost use Rattle.document_model.specs.Edited.{with_content};
 ghost use Rattle.document_outcomes.specs.Faults.{IsValid};
@@ -83,7 +83,7 @@ fn accepted(
 fn bound(alloc: Global, tables: &Tables, slot: SlotId, text: &str) -> Result<Tables, EditFault>
     requires { IsSome (slot_at tables.now slot.0) }
     ensures { (s : Slot) → slot_at tables.now slot.0 ≡ Some s
-        → Becomes tables.now (bound_to tables.now.document s (expression_of text.now)) result }
+        → Becomes tables.now (bound_to tables.now.document s (expression_in text.now)) result }
 {
     let tree = parse(alloc, text)?;
     accepted(alloc, tables, slot, Content::Bound(tree))
@@ -157,7 +157,7 @@ fn value_given(
 fn value_read(alloc: Global, tables: &Tables, slot: SlotId, text: &str) -> Result<Value, EditFault>
     requires { IsSome (slot_at tables.now slot.0) }
     ensures { (s : Slot) → slot_at tables.now slot.0 ≡ Some s
-        → Answers (value_read tables.now.document s (closed_expression_of text.now)) result }
+        → Answers (value_read tables.now.document s (closed_expression_in text.now)) result }
 {
     let tree = parse_closed(alloc, text)?;
     value_given(alloc, tables, slot, &tree)
@@ -167,7 +167,7 @@ fn value_read(alloc: Global, tables: &Tables, slot: SlotId, text: &str) -> Resul
 fn set(alloc: Global, tables: &Tables, slot: SlotId, text: &str) -> Result<Tables, EditFault>
     requires { IsSome (slot_at tables.now slot.0) }
     ensures { (s : Slot) → slot_at tables.now slot.0 ≡ Some s
-        → Becomes tables.now (set_to tables.now.document s (closed_expression_of text.now)) result }
+        → Becomes tables.now (set_to tables.now.document s (closed_expression_in text.now)) result }
 {
     let value = value_read(alloc, tables, slot, text)?;
     accepted(alloc, tables, slot, Content::Own(value))

@@ -2,7 +2,7 @@ ghost use Rattle.std.specs.Prelude.{◌≡◌, ◌<◌, ◌^◌, IfOk, IsSome, S
 ghost use Rattle.std.specs.Option.{option_and_then};
 ghost use Rattle.property_types.specs.Types.{sort_of_type};
 ghost use Rattle.expr_eval.specs.Sorts.{sort_of};
-ghost use Rattle.expr_grammar.specs.References.{reference_count};
+ghost use Rattle.expr_tree.specs.References.{reference_count};
 ghost use Rattle.document_model.specs.Slots.{slots, type_of};
 ghost use Rattle.document_outcomes.specs.Faults.{sort_faults};
 ghost use Rattle.document_outcomes.specs.Sorts.{local_sort, sort_reading};
@@ -18,7 +18,7 @@ use crate::sorts_behind::{SortsBehind, sort_in};
 use crate::subjects::slot_fault;
 use doc_tables::Tables;
 use expr_eval::{SortCause, SortFault, SortOutcome, sort_of};
-use expr_grammar::Expr;
+use expr_tree::Expr;
 use fc_base::SlotId;
 use property_types::{Sort, ValueFault};
 use std::alloc::{AllocError, Global};

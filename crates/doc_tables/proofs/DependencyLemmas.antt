@@ -6,10 +6,10 @@ use Rattle.std.proofs.lemmas.Bool.{false≢true}
 use Rattle.std.proofs.lemmas.Simd.{map-map}
 use Rattle.fc_base.specs.declared.ids.SlotId.{SlotId}
 use Rattle.object_paths.specs.Slots.{Slot}
-use Rattle.expr_grammar.specs.declared.reference.Reference as listed
-use Rattle.expr_grammar.specs.ListedReferences.{reference_of}
-use Rattle.expr_grammar.specs.References.{references}
-use Rattle.expr_grammar.specs.Tree.{Tree}
+use Rattle.expr_tree.specs.declared.reference.Reference as listed
+use Rattle.expr_tree.specs.ListedReferences.{reference_of}
+use Rattle.expr_tree.specs.References.{references}
+use Rattle.expr_tree.specs.Tree.{Tree}
 use Rattle.document_model.specs.declared.content.Content.{Content}
 use Rattle.document_model.specs.declared.content.Content.TheVariants.{Own, Bound}
 use Rattle.document_model.specs.declared.kind.ObjectKind.TheVariants.{VarSet}

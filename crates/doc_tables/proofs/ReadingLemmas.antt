@@ -5,8 +5,8 @@ use Rattle.std.specs.Option.{option_map, option_and_then, option_map_or}
 use Rattle.std.proofs.lemmas.Option.{slice_get-map}
 use Rattle.fc_base.specs.declared.ids.SlotId.{SlotId}
 use Rattle.object_paths.specs.Slots.{Slot}
-use Rattle.expr_grammar.specs.References.{references}
-use Rattle.expr_grammar.specs.Tree.{Tree}
+use Rattle.expr_tree.specs.References.{references}
+use Rattle.expr_tree.specs.Tree.{Tree}
 use Rattle.document_model.specs.Dependencies.{slot_reached}
 use Rattle.document_model.specs.Document.{Object, object_named}
 use Rattle.doc_tables.specs.Accessors.{AreReached, reached_at, slots_reached, tree_at}

@@ -9,7 +9,7 @@ use Rattle.object_paths.specs.declared.slot_name.SlotName.TheVariants.{Component
 use Rattle.object_paths.specs.declared.slot_name.Component as c
 use Rattle.property_types.specs.declared.prop_type.PropType.{PropType}
 use Rattle.property_types.specs.declared.prop_type.PropType.TheVariants as prop
-use Rattle.expr_grammar.specs.References.{Reference, to_path, to_area}
+use Rattle.expr_tree.specs.References.{Reference, to_path, to_area}
 use Rattle.document_model.specs.declared.content.Content.{Content}
 use Rattle.document_model.specs.declared.kind.ObjectKind.TheVariants.{VarSet}
 use Rattle.document_model.specs.Dependencies.{is_cell_within, cells_reached}

@@ -7,8 +7,8 @@ use Rattle.object_paths.specs.declared.path.Owner.TheVariants.{ByName}
 use Rattle.object_paths.specs.PathTexts.{path_text}
 use Rattle.object_paths.specs.Slots.{Slot}
 use Rattle.property_types.specs.declared.value.Value.{Value}
-use Rattle.expr_grammar.specs.References.{references}
-use Rattle.expr_grammar.specs.Tree.{Tree}
+use Rattle.expr_tree.specs.References.{references}
+use Rattle.expr_tree.specs.Tree.{Tree}
 use Rattle.document_model.specs.Document.{Document, Object, object_named}
 use Rattle.document_model.specs.Slots.{Rule, own, bound, inherit, global, output, rule_of}
 use Rattle.document_model.specs.Dependencies.{deps, slot_reached}

@@ -1,8 +1,8 @@
 -- What is counted of the slots of an object.
 use Rattle.std.specs.Prelude.{ℕ, List, length, map, sum_by}
 use Rattle.std.specs.Option.{option_len}
-use Rattle.expr_grammar.specs.Nodes.{node_count}
-use Rattle.expr_grammar.specs.References.{Reference, references}
+use Rattle.expr_tree.specs.Nodes.{node_count}
+use Rattle.expr_tree.specs.References.{Reference, references}
 use Rattle.document_model.specs.declared.content.Content.{Content}
 use Rattle.document_model.specs.declared.content.Content.TheVariants.{Own, Bound}
 use Rattle.document_model.specs.Dependencies.{deps}

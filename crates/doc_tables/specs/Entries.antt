@@ -8,7 +8,7 @@ use Rattle.fc_base.specs.declared.ids.SlotId.{SlotId}
 use Rattle.object_paths.specs.declared.slot_name.SlotName.{SlotName}
 use Rattle.object_paths.specs.declared.slot_name.SlotName.TheVariants.{Plain, Component, Marked}
 use Rattle.object_paths.specs.Slots.{Slot}
-use Rattle.expr_grammar.specs.References.{Reference, reference_count}
+use Rattle.expr_tree.specs.References.{Reference, reference_count}
 use Rattle.document_model.specs.declared.content.Content.{Content}
 use Rattle.document_model.specs.declared.content.Content.TheVariants.{Own, Bound}
 use Rattle.document_model.specs.Dependencies.{slot_reached}

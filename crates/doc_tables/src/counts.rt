@@ -1,6 +1,6 @@
 ghost use Rattle.std.specs.Prelude.{◌≡◌, ℕ, ◌<◌, length, min, slice_index_or, IsSome, Some};
 ghost use Rattle.std.specs.Option.{option_map_or};
-ghost use Rattle.expr_grammar.specs.References.{references};
+ghost use Rattle.expr_tree.specs.References.{references};
 ghost use Rattle.document_model.specs.Counts.{dependencies_of_document, nodes_of_document};
 ghost use Rattle.document_model.specs.Document.{Object};
 ghost use Rattle.document_model.specs.Slots.{slots};
@@ -10,7 +10,7 @@ ghost use Rattle.doc_tables.specs.Numbered.{name_at, object_at};
 use crate::entry::{ObjectEntry, PropertyEntry};
 use crate::tables::Tables;
 use document_model::Content;
-use expr_grammar::{Argument, Expr, Node};
+use expr_tree::{Argument, Expr, Node};
 use fc_base::{Name, ObjectId};
 use indexmap::IndexMap;
 

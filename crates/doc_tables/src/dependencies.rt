@@ -1,5 +1,5 @@
 ghost use Rattle.std.specs.Prelude.{◌≡◌, ℕ, ◌<◌, length, map, IfOk, IsSome, Some, option_map};
-ghost use Rattle.expr_grammar.specs.ListedReferences.{reference_of};
+ghost use Rattle.expr_tree.specs.ListedReferences.{reference_of};
 ghost use Rattle.doc_tables.specs.Accessors.{AreNumbersOf, AreReached, IsNumberOf, deps_at, reached_at};
 ghost use Rattle.doc_tables.specs.DependencyLists.{AreDependencyLists};
 ghost use Rattle.doc_tables.specs.Entries.{present, reached_by};
@@ -7,7 +7,7 @@ ghost use Rattle.doc_tables.specs.Numbered.{name_at, slot_at};
 
 use crate::tables::Tables;
 use document_model::Content;
-use expr_grammar::{Reference, references};
+use expr_tree::{Reference, references};
 use fc_base::{ObjectId, SlotId};
 use std::alloc::{AllocError, Global};
 

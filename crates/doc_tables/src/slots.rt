@@ -2,7 +2,7 @@ ghost use Rattle.std.specs.Prelude.{◌≡◌, ◌<◌, ◌^◌, ◌++◌, lengt
 ghost use Rattle.std.specs.List.{flat_map};
 ghost use Rattle.std.specs.Option.{option_and_then};
 ghost use Rattle.fc_base.specs.Texts.{is_text_value};
-ghost use Rattle.expr_grammar.specs.References.{reference_count};
+ghost use Rattle.expr_tree.specs.References.{reference_count};
 ghost use Rattle.document_model.specs.Slots.{slots, type_of};
 ghost use Rattle.doc_tables.specs.Accessors.{AreNumbersOf, IsNumberOf, IsRule, outside_path, own_at, rule_at, tree_at};
 ghost use Rattle.doc_tables.specs.Entries.{IsEntryOf, numbers_in};
@@ -12,7 +12,7 @@ use crate::entry::{ObjectEntry, PropertyEntry};
 use crate::rule::Rule;
 use crate::tables::Tables;
 use document_model::Content;
-use expr_grammar::Expr;
+use expr_tree::Expr;
 use fc_base::{Name, ObjectId, SlotId};
 use indexmap::IndexMap;
 use object_paths::{SlotName, slot_path};

@@ -26,7 +26,7 @@ pub struct Tables {
 
 impl Model for Tables {
     ghost use Rattle.std.specs.Coded.{codes};
-    ghost use Rattle.expr_grammar.specs.contracts.expr.Expr as e;
+    ghost use Rattle.expr_tree.specs.contracts.expr.Expr as e;
     ghost use Rattle.doc_tables.specs.Numbered.{Numbered};
 
     ghost Value = { Numbered };

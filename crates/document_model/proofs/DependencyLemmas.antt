@@ -11,8 +11,8 @@ use Rattle.object_paths.specs.declared.path.Owner.{Owner}
 use Rattle.object_paths.specs.declared.path.Owner.TheVariants.{Here, ByName, ByLabel}
 use Rattle.object_paths.specs.declared.path.Path.{Path}
 use Rattle.object_paths.specs.Slots.{Slot}
-use Rattle.expr_grammar.specs.Tree.{Tree}
-use Rattle.expr_grammar.specs.References.{Reference, to_path, to_area, references}
+use Rattle.expr_tree.specs.Tree.{Tree}
+use Rattle.expr_tree.specs.References.{Reference, to_path, to_area, references}
 use Rattle.document_model.specs.declared.kind.ObjectKind.{ObjectKind}
 use Rattle.document_model.specs.declared.kind.ObjectKind.TheVariants.{VarSet, Sheet, Link, Feature, Foreign}
 use Rattle.document_model.specs.Document.{Document, Object, object_named}

@@ -10,7 +10,7 @@ use Rattle.property_types.specs.declared.value.Value.TheVariants.{Number, Flag, 
 use Rattle.property_types.specs.Values.{IsValue}
 use Rattle.property_types.specs.Sorts.{sort_of_value, same_sort}
 use Rattle.property_types.specs.Types.{sort_of_type}
-use Rattle.expr_grammar.specs.Spelled.{IsSpelled}
+use Rattle.expr_tree.specs.Spelled.{IsSpelled}
 use Rattle.document_model.specs.declared.content.Content.{Content}
 use Rattle.document_model.specs.declared.content.Content.TheVariants.{Own, Bound}
 

@@ -3,8 +3,8 @@ use Rattle.std.specs.Prelude.{ℕ, ◌+◌, not, List, ◌++◌, map, length, fi
 use Rattle.std.specs.List.{filter_map, flat_map}
 use Rattle.fc_base.specs.Places.{Place}
 use Rattle.object_paths.specs.declared.slot_name.SlotName.{SlotName}
-use Rattle.expr_grammar.specs.Nodes.{node_count}
-use Rattle.expr_grammar.specs.Tree.{Tree}
+use Rattle.expr_tree.specs.Nodes.{node_count}
+use Rattle.expr_tree.specs.Tree.{Tree}
 use Rattle.document_model.specs.declared.content.Content.{Content}
 use Rattle.document_model.specs.declared.content.Content.TheVariants.{Own, Bound}
 use Rattle.document_model.specs.Document.{Document, Object, Property, Cell}

@@ -7,8 +7,8 @@ use Rattle.object_paths.specs.declared.slot_name.SlotName.{SlotName}
 use Rattle.object_paths.specs.declared.slot_name.SlotName.TheVariants.{Plain, Component, Marked}
 use Rattle.object_paths.specs.Slots.{Slot}
 use Rattle.property_types.specs.Plans.{Slots}
-use Rattle.expr_grammar.specs.Tree.{Tree}
-use Rattle.expr_grammar.specs.References.{Reference, to_path, to_area, references}
+use Rattle.expr_tree.specs.Tree.{Tree}
+use Rattle.expr_tree.specs.References.{Reference, to_path, to_area, references}
 use Rattle.document_model.specs.declared.kind.ObjectKind.{ObjectKind}
 use Rattle.document_model.specs.declared.kind.ObjectKind.TheVariants.{VarSet, Sheet, Link, Feature, Foreign}
 use Rattle.document_model.specs.Document.{Document, Object, object_named}

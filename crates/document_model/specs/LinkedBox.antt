@@ -16,9 +16,9 @@ use Rattle.property_types.specs.declared.value.Value.{Value}
 use Rattle.property_types.specs.declared.value.Value.TheVariants.{Number, Flag}
 use Rattle.property_types.specs.Plans.{Slots}
 use Rattle.property_types.specs.Types.{unit_of}
-use Rattle.expr_grammar.specs.declared.operators.BinaryOp.TheVariants.{Times}
-use Rattle.expr_tokens.specs.declared.functions.AggregateOp.TheVariants.{Sum}
-use Rattle.expr_grammar.specs.Tree.{Tree, literal, path, binary, aggregate, no_more, cells}
+use Rattle.expr_tree.specs.declared.operators.BinaryOp.TheVariants.{Times}
+use Rattle.expr_tree.specs.declared.functions.AggregateOp.TheVariants.{Sum}
+use Rattle.expr_tree.specs.Tree.{Tree, literal, path, binary, aggregate, no_more, cells}
 use Rattle.document_model.specs.declared.content.Content.{Content}
 use Rattle.document_model.specs.declared.content.Content.TheVariants.{Own, Bound}
 use Rattle.document_model.specs.declared.kind.ObjectKind.TheVariants.{Sheet, Link, Feature}

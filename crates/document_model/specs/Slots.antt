@@ -12,7 +12,7 @@ use Rattle.property_types.specs.declared.prop_type.PropType.{PropType}
 use Rattle.property_types.specs.declared.value.Value.{Value}
 use Rattle.property_types.specs.Plans.{Slots}
 use Rattle.property_types.specs.Types.{zero_value}
-use Rattle.expr_grammar.specs.Tree.{Tree}
+use Rattle.expr_tree.specs.Tree.{Tree}
 use Rattle.document_model.specs.declared.content.Content.{Content}
 use Rattle.document_model.specs.declared.content.Content.TheVariants.{Own, Bound}
 use Rattle.document_model.specs.declared.kind.ObjectKind.{ObjectKind}

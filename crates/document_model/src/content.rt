@@ -1,4 +1,4 @@
-use expr_grammar::Expr;
+use expr_tree::Expr;
 use property_types::Value;
 
 /// What stands in a slot that can be written: a value of its own, or the expression to which the

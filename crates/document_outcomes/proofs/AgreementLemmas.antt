@@ -5,8 +5,8 @@ use Rattle.std.specs.List.{flat_map}
 use Rattle.std.specs.Option.{option_map_or, option_to_list}
 use Rattle.fc_base.specs.Graph.{IsIn}
 use Rattle.object_paths.specs.Slots.{Slot}
-use Rattle.expr_grammar.specs.References.{Reference, references}
-use Rattle.expr_grammar.specs.Tree.{Tree}
+use Rattle.expr_tree.specs.References.{Reference, references}
+use Rattle.expr_tree.specs.Tree.{Tree}
 use Rattle.document_model.specs.Document.{Document, Object, object_named}
 use Rattle.document_model.specs.Slots.{rule_of}
 use Rattle.document_model.specs.Dependencies.{slot_reached, cells_reached, slots_of_tree, deps_by, deps}

@@ -7,8 +7,8 @@ use Rattle.fc_base.specs.Graph.{IsIn}
 use Rattle.object_paths.specs.declared.slot_name.SlotName.{SlotName}
 use Rattle.object_paths.specs.Slots.{Slot}
 use Rattle.property_types.specs.declared.prop_type.Sort.{Sort}
-use Rattle.expr_grammar.specs.References.{Reference, references}
-use Rattle.expr_grammar.specs.Tree.{Tree}
+use Rattle.expr_tree.specs.References.{Reference, references}
+use Rattle.expr_tree.specs.Tree.{Tree}
 use Rattle.expr_eval.specs.SortRows.{SortOutcome}
 use Rattle.document_model.specs.declared.content.Content.{Content}
 use Rattle.document_model.specs.Document.{Document, Object}

@@ -18,8 +18,8 @@ use Rattle.property_types.specs.Sorts.{sort_of_value}
 use Rattle.property_types.specs.Types.{sort_of_type}
 use Rattle.property_types.specs.Values.{Outcome, same_unit}
 use Rattle.property_types.proofs.Fitting.{fitted-sort}
-use Rattle.expr_grammar.specs.References.{Reference, references}
-use Rattle.expr_grammar.specs.Tree.{Tree}
+use Rattle.expr_tree.specs.References.{Reference, references}
+use Rattle.expr_tree.specs.Tree.{Tree}
 use Rattle.expr_eval.specs.declared.sort_cause.SortCause.TheVariants.{UnitMismatch}
 use Rattle.expr_eval.specs.Kinds.{IsOfSort, AreOfSorts, Agrees}
 use Rattle.expr_eval.specs.SortRows.{SortOutcome, one_sort, one_unit}

@@ -6,8 +6,8 @@ use Rattle.fc_base.specs.Graph.{IsIn, ReadsOnlyDeps}
 use Rattle.object_paths.specs.Slots.{Slot}
 use Rattle.property_types.specs.declared.value.ValueFault.TheVariants.{Range}
 use Rattle.property_types.specs.Values.{Outcome}
-use Rattle.expr_grammar.specs.References.{Reference, references}
-use Rattle.expr_grammar.specs.Tree.{Tree}
+use Rattle.expr_tree.specs.References.{Reference, references}
+use Rattle.expr_tree.specs.Tree.{Tree}
 use Rattle.expr_eval.specs.Firsts.{on_one, all_of}
 use Rattle.expr_eval.specs.Outcomes.{outcome_of}
 use Rattle.document_model.specs.Document.{Document, Object, object_named}

@@ -4,8 +4,8 @@ use Rattle.std.specs.Prelude.{Option, slice_get, Err}
 use Rattle.std.specs.Option.{option_and_then, option_map_or}
 use Rattle.fc_base.specs.Graph.{IsIn, ReadsOnlyDeps}
 use Rattle.object_paths.specs.Slots.{Slot}
-use Rattle.expr_grammar.specs.References.{Reference, references}
-use Rattle.expr_grammar.specs.Tree.{Tree}
+use Rattle.expr_tree.specs.References.{Reference, references}
+use Rattle.expr_tree.specs.Tree.{Tree}
 use Rattle.expr_eval.specs.declared.sort_cause.SortCause.TheVariants.{KindMismatch}
 use Rattle.expr_eval.specs.SortRows.{SortOutcome}
 use Rattle.expr_eval.specs.Sorts.{sort_of}

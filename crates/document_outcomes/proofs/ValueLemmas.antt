@@ -17,7 +17,7 @@ use Rattle.property_types.specs.declared.value.ValueFault.TheVariants.{Range, Ou
 use Rattle.property_types.specs.Plans.{Slots}
 use Rattle.property_types.specs.Types.{sort_of_type}
 use Rattle.property_types.specs.Values.{Outcome}
-use Rattle.expr_grammar.specs.Tree.{Tree}
+use Rattle.expr_tree.specs.Tree.{Tree}
 use Rattle.expr_eval.specs.declared.sort_cause.SortCause.TheVariants.{KindMismatch}
 use Rattle.expr_eval.specs.Firsts.{on_one, all_of}
 use Rattle.expr_eval.specs.Kinds.{IsOfSort, Agrees}

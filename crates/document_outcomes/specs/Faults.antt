@@ -9,7 +9,7 @@ use Rattle.object_paths.specs.PathTexts.{path_text}
 use Rattle.object_paths.specs.Slots.{Slot, same_text, same_slot_name}
 use Rattle.property_types.specs.declared.prop_type.PropType.{PropType}
 use Rattle.property_types.specs.Fits.{fit}
-use Rattle.expr_grammar.specs.References.{Reference, to_path, to_area, references}
+use Rattle.expr_tree.specs.References.{Reference, to_path, to_area, references}
 use Rattle.expr_eval.specs.declared.sort_cause.SortCause.{SortCause}
 use Rattle.expr_eval.specs.declared.sort_cause.SortCause.TheVariants.{UnitMismatch, KindMismatch, ExponentRange}
 use Rattle.expr_eval.specs.SortRows.{SortOutcome}

@@ -13,8 +13,8 @@ use Rattle.property_types.specs.declared.value.ValueFault.TheVariants.{Range}
 use Rattle.property_types.specs.Fits.{fit}
 use Rattle.property_types.specs.Plans.{Slots}
 use Rattle.property_types.specs.Values.{Outcome}
-use Rattle.expr_grammar.specs.References.{Reference, references}
-use Rattle.expr_grammar.specs.Tree.{Tree}
+use Rattle.expr_tree.specs.References.{Reference, references}
+use Rattle.expr_tree.specs.Tree.{Tree}
 use Rattle.expr_eval.specs.Firsts.{on_one, all_of}
 use Rattle.expr_eval.specs.Outcomes.{Reading, outcome_of}
 use Rattle.document_model.specs.Document.{Document, Object, object_named}

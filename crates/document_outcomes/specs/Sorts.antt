@@ -11,8 +11,8 @@ use Rattle.property_types.specs.declared.value.Value.{Value}
 use Rattle.property_types.specs.Sorts.{sort_of_value}
 use Rattle.property_types.specs.Types.{sort_of_type}
 use Rattle.property_types.specs.Values.{same_unit}
-use Rattle.expr_grammar.specs.References.{Reference, references}
-use Rattle.expr_grammar.specs.Tree.{Tree}
+use Rattle.expr_tree.specs.References.{Reference, references}
+use Rattle.expr_tree.specs.Tree.{Tree}
 use Rattle.expr_eval.specs.declared.sort_cause.SortCause.TheVariants.{UnitMismatch, KindMismatch}
 use Rattle.expr_eval.specs.Firsts.{on_one}
 use Rattle.expr_eval.specs.SortRows.{SortOutcome, one_sort}

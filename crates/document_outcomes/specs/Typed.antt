@@ -10,7 +10,7 @@ use Rattle.property_types.specs.declared.value.ValueFault.TheVariants.{Range}
 use Rattle.property_types.specs.Plans.{Slots}
 use Rattle.property_types.specs.Sorts.{sort_of_value}
 use Rattle.property_types.specs.Types.{sort_of_type}
-use Rattle.expr_grammar.specs.Tree.{Tree}
+use Rattle.expr_tree.specs.Tree.{Tree}
 use Rattle.expr_eval.specs.Kinds.{IsOfSort}
 use Rattle.expr_eval.specs.Outcomes.{outcome_by}
 use Rattle.document_model.specs.Document.{Document, Object, object_named}

@@ -3,8 +3,8 @@ use Rattle.std.specs.Prelude.{◌≡◌, ℕ, zero, suc, pos, negsuc, false, tru
 use Rattle.property_types.specs.declared.prop_type.PropType.TheVariants.{Float, Length}
 use Rattle.property_types.specs.declared.value.Value.TheVariants.{Number}
 use Rattle.property_types.specs.Types.{unit_of}
-use Rattle.expr_grammar.specs.declared.operators.BinaryOp.TheVariants.{Minus, Times}
-use Rattle.expr_grammar.specs.Tree.{Tree, literal, flag, binary}
+use Rattle.expr_tree.specs.declared.operators.BinaryOp.TheVariants.{Minus, Times}
+use Rattle.expr_tree.specs.Tree.{Tree, literal, flag, binary}
 use Rattle.document_model.specs.declared.content.Content.{Content}
 use Rattle.document_model.specs.declared.content.Content.TheVariants.{Own, Bound}
 use Rattle.document_model.specs.Document.{Document}

@@ -6,8 +6,8 @@ use Rattle.object_paths.specs.declared.slot_name.SlotName.TheVariants.{Plain, Co
 use Rattle.object_paths.specs.Slots.{Slot}
 use Rattle.property_types.specs.declared.prop_type.PropType.TheVariants.{Float}
 use Rattle.property_types.specs.declared.value.Value.TheVariants.{Flag, Text}
-use Rattle.expr_grammar.specs.declared.operators.BinaryOp.TheVariants.{Plus, Times}
-use Rattle.expr_grammar.specs.Tree.{binary}
+use Rattle.expr_tree.specs.declared.operators.BinaryOp.TheVariants.{Plus, Times}
+use Rattle.expr_tree.specs.Tree.{binary}
 use Rattle.document_model.specs.declared.content.Content.{Content}
 use Rattle.document_model.specs.declared.content.Content.TheVariants.{Own, Bound}
 use Rattle.document_model.specs.declared.kind.ObjectKind.TheVariants.{Sheet, Link}

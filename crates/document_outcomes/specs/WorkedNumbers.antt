@@ -5,8 +5,8 @@ use Rattle.property_types.specs.declared.prop_type.PropType.TheVariants.{Float, 
 use Rattle.property_types.specs.declared.prop_type.Sort.TheVariants as sort_of
 use Rattle.property_types.specs.declared.value.Value.TheVariants.{Number}
 use Rattle.property_types.specs.declared.value.ValueFault.TheVariants.{Range, DivideByZero, NotWhole, OutOfType}
-use Rattle.expr_grammar.specs.declared.operators.BinaryOp.TheVariants.{Plus, Times, Over}
-use Rattle.expr_grammar.specs.Tree.{flag, binary, conditional}
+use Rattle.expr_tree.specs.declared.operators.BinaryOp.TheVariants.{Plus, Times, Over}
+use Rattle.expr_tree.specs.Tree.{flag, binary, conditional}
 use Rattle.document_model.specs.declared.content.Content.TheVariants.{Own, Bound}
 use Rattle.document_model.specs.Document.{Document}
 use Rattle.document_model.specs.Examples.{document_of}

@@ -6,7 +6,7 @@ use Rattle.object_paths.specs.declared.path.Owner.TheVariants.{Here, ByName}
 use Rattle.property_types.specs.declared.prop_type.PropType.{PropType}
 use Rattle.property_types.specs.declared.value.Value.{Value}
 use Rattle.property_types.specs.declared.value.Value.TheVariants.{Number}
-use Rattle.expr_grammar.specs.Tree.{Tree, literal, path}
+use Rattle.expr_tree.specs.Tree.{Tree, literal, path}
 use Rattle.document_model.specs.declared.content.Content.{Content}
 use Rattle.document_model.specs.declared.kind.ObjectKind.TheVariants.{VarSet}
 use Rattle.document_model.specs.Document.{Object, Property}

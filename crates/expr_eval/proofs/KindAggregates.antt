@@ -9,8 +9,8 @@ use Rattle.property_types.specs.declared.prop_type.Sort.TheVariants.{Number}
 use Rattle.property_types.specs.declared.value.ValueFault.{ValueFault}
 use Rattle.property_types.specs.Values.{Outcome}
 use Rattle.property_types.specs.Sorts.{same_sort}
-use Rattle.expr_tokens.specs.declared.functions.AggregateOp.{AggregateOp}
-use Rattle.expr_tokens.specs.declared.functions.AggregateOp.TheVariants.{Sum, Average, Count, Min, Max}
+use Rattle.expr_tree.specs.declared.functions.AggregateOp.{AggregateOp}
+use Rattle.expr_tree.specs.declared.functions.AggregateOp.TheVariants.{Sum, Average, Count, Min, Max}
 use Rattle.expr_eval.specs.declared.sort_cause.SortCause.{SortCause}
 use Rattle.expr_eval.specs.declared.sort_cause.SortCause.TheVariants.{UnitMismatch, KindMismatch}
 use Rattle.expr_eval.specs.Firsts.{on_one, all_of, with_item}

@@ -4,10 +4,10 @@ use Rattle.quantities.specs.Arithmetic.{bounded, power}
 use Rattle.unit_signatures.specs.Products.{power_of}
 use Rattle.unit_signatures.specs.Table.{unit_named}
 use Rattle.property_types.specs.declared.value.ValueFault.{ValueFault}
-use Rattle.expr_grammar.specs.declared.operators.BinaryOp.TheVariants.{Modulo}
-use Rattle.expr_grammar.specs.References.{reference_count}
-use Rattle.expr_grammar.specs.Tree.{Tree, literal, unit_one, flag, text, path, negate, binary, compare, conditional, function, modulo, aggregate, Arguments, no_more, tree, cells}
-use Rattle.expr_grammar.specs.Tree as node
+use Rattle.expr_tree.specs.declared.operators.BinaryOp.TheVariants.{Modulo}
+use Rattle.expr_tree.specs.References.{reference_count}
+use Rattle.expr_tree.specs.Tree.{Tree, literal, unit_one, flag, text, path, negate, binary, compare, conditional, function, modulo, aggregate, Arguments, no_more, tree, cells}
+use Rattle.expr_tree.specs.Tree as node
 use Rattle.expr_eval.specs.Firsts.{all_of}
 use Rattle.expr_eval.specs.SortRows as rows
 use Rattle.expr_eval.specs.Sorts.{SortReading, sort_of, item_sorts}

@@ -8,10 +8,10 @@ use Rattle.property_types.specs.declared.prop_type.Sort.{Sort}
 use Rattle.property_types.specs.declared.prop_type.Sort.TheVariants.{Number, Flag}
 use Rattle.property_types.specs.declared.value.ValueFault.{ValueFault}
 use Rattle.property_types.specs.Values.{Outcome}
-use Rattle.expr_grammar.specs.declared.operators.BinaryOp.TheVariants.{Modulo}
-use Rattle.expr_grammar.specs.References.{reference_count}
-use Rattle.expr_grammar.specs.Tree.{Tree, literal, unit_one, flag, text, path, negate, binary, compare, conditional, function, modulo, aggregate, Arguments, no_more, tree, cells}
-use Rattle.expr_grammar.specs.Tree as node
+use Rattle.expr_tree.specs.declared.operators.BinaryOp.TheVariants.{Modulo}
+use Rattle.expr_tree.specs.References.{reference_count}
+use Rattle.expr_tree.specs.Tree.{Tree, literal, unit_one, flag, text, path, negate, binary, compare, conditional, function, modulo, aggregate, Arguments, no_more, tree, cells}
+use Rattle.expr_tree.specs.Tree as node
 use Rattle.expr_eval.specs.Firsts.{on_one, on_two, all_of}
 use Rattle.expr_eval.specs.SortRows as rows
 use Rattle.expr_eval.specs.SortRows.{SortOutcome}

@@ -15,13 +15,13 @@ use Rattle.property_types.specs.declared.prop_type.Sort.TheVariants.{Number, Fla
 use Rattle.property_types.specs.declared.value.Value.TheVariants as value
 use Rattle.property_types.specs.declared.value.ValueFault.{ValueFault}
 use Rattle.property_types.specs.Values.{Outcome, same_unit}
-use Rattle.expr_grammar.specs.declared.expr.UnitPower.{UnitPower}
-use Rattle.expr_grammar.specs.declared.operators.BinaryOp.{BinaryOp}
-use Rattle.expr_grammar.specs.declared.operators.BinaryOp.TheVariants.{Plus, Minus, Times, Over, Modulo}
-use Rattle.expr_grammar.specs.declared.operators.CompareOp.{CompareOp}
-use Rattle.expr_grammar.specs.declared.operators.CompareOp.TheVariants.{Equal, NotEqual, Less, LessOrEqual, Greater, GreaterOrEqual}
-use Rattle.expr_tokens.specs.declared.functions.AggregateOp.{AggregateOp}
-use Rattle.expr_tokens.specs.declared.functions.AggregateOp.TheVariants.{Sum, Average, Count, Min, Max}
+use Rattle.expr_tree.specs.declared.expr.UnitPower.{UnitPower}
+use Rattle.expr_tree.specs.declared.operators.BinaryOp.{BinaryOp}
+use Rattle.expr_tree.specs.declared.operators.BinaryOp.TheVariants.{Plus, Minus, Times, Over, Modulo}
+use Rattle.expr_tree.specs.declared.operators.CompareOp.{CompareOp}
+use Rattle.expr_tree.specs.declared.operators.CompareOp.TheVariants.{Equal, NotEqual, Less, LessOrEqual, Greater, GreaterOrEqual}
+use Rattle.expr_tree.specs.declared.functions.AggregateOp.{AggregateOp}
+use Rattle.expr_tree.specs.declared.functions.AggregateOp.TheVariants.{Sum, Average, Count, Min, Max}
 use Rattle.expr_eval.specs.declared.sort_cause.SortCause.{SortCause}
 use Rattle.expr_eval.specs.declared.sort_cause.SortCause.TheVariants.{UnitMismatch, KindMismatch}
 use Rattle.expr_eval.specs.Firsts.{on_one, on_two, all_of}

@@ -3,9 +3,9 @@ use Rattle.std.proofs.Common.{◌≡◌, ℕ, ◌+◌, refl}
 use Rattle.fc_base.specs.Places.{Block}
 use Rattle.object_paths.specs.declared.path.Path.{Path}
 use Rattle.property_types.specs.declared.value.ValueFault.{ValueFault}
-use Rattle.expr_grammar.specs.Tree.{Tree, literal, unit_one, flag, text, path, negate, binary, power, compare, conditional, function, modulo, aggregate, Arguments, no_more, tree, cells}
-use Rattle.expr_grammar.specs.References.{reference_count, argument_reference_count}
-use Rattle.expr_grammar.specs.Numbered.{with_numbered, with_numbered_arguments}
+use Rattle.expr_tree.specs.Tree.{Tree, literal, unit_one, flag, text, path, negate, binary, power, compare, conditional, function, modulo, aggregate, Arguments, no_more, tree, cells}
+use Rattle.expr_tree.specs.References.{reference_count, argument_reference_count}
+use Rattle.expr_tree.specs.Numbered.{with_numbered, with_numbered_arguments}
 use Rattle.expr_eval.specs.Sorts.{SortReading, sort_of, item_sorts}
 use Rattle.expr_eval.specs.Outcomes.{Reading, outcome_by, items_by}
 

@@ -9,8 +9,8 @@ use Rattle.quantities.specs.Arithmetic.{Calculated, bounded, plus, over}
 use Rattle.property_types.specs.declared.value.ValueFault.TheVariants.{EmptyAggregate}
 use Rattle.property_types.specs.declared.value.Value.TheVariants.{Number}
 use Rattle.property_types.specs.Values.{Outcome}
-use Rattle.expr_tokens.specs.declared.functions.AggregateOp.{AggregateOp}
-use Rattle.expr_tokens.specs.declared.functions.AggregateOp.TheVariants.{Sum, Average, Count, Min, Max}
+use Rattle.expr_tree.specs.declared.functions.AggregateOp.{AggregateOp}
+use Rattle.expr_tree.specs.declared.functions.AggregateOp.TheVariants.{Sum, Average, Count, Min, Max}
 use Rattle.expr_eval.specs.Firsts.{on_one, on_two}
 use Rattle.expr_eval.specs.Numbers.{calculated}
 

@@ -7,10 +7,10 @@ use Rattle.property_types.specs.declared.value.Value.TheVariants as value
 use Rattle.property_types.specs.Types.{unit_of}
 use Rattle.property_types.specs.Values.{Outcome}
 use Rattle.fc_base.specs.Places.{Block}
-use Rattle.expr_grammar.specs.declared.operators.BinaryOp.TheVariants.{Plus, Over}
-use Rattle.expr_grammar.specs.declared.operators.CompareOp.TheVariants.{Equal}
-use Rattle.expr_tokens.specs.declared.functions.AggregateOp.TheVariants.{Sum, Average, Count}
-use Rattle.expr_grammar.specs.Tree.{Tree, literal, flag, negate, binary, power, compare, conditional, aggregate, no_more, tree, cells}
+use Rattle.expr_tree.specs.declared.operators.BinaryOp.TheVariants.{Plus, Over}
+use Rattle.expr_tree.specs.declared.operators.CompareOp.TheVariants.{Equal}
+use Rattle.expr_tree.specs.declared.functions.AggregateOp.TheVariants.{Sum, Average, Count}
+use Rattle.expr_tree.specs.Tree.{Tree, literal, flag, negate, binary, power, compare, conditional, aggregate, no_more, tree, cells}
 use Rattle.expr_eval.specs.declared.sort_cause.SortCause.TheVariants.{UnitMismatch, KindMismatch}
 use Rattle.expr_eval.specs.Sorts.{SortReading, sort_of}
 use Rattle.expr_eval.specs.Outcomes.{Reading, outcome_of}

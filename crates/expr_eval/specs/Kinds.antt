@@ -5,7 +5,7 @@ use Rattle.property_types.specs.declared.prop_type.Sort.{Sort}
 use Rattle.property_types.specs.declared.value.ValueFault.{ValueFault}
 use Rattle.property_types.specs.Sorts.{sort_of_value}
 use Rattle.property_types.specs.Values.{Outcome}
-use Rattle.expr_grammar.specs.Tree.{Tree}
+use Rattle.expr_tree.specs.Tree.{Tree}
 use Rattle.expr_eval.specs.SortRows.{SortOutcome}
 use Rattle.expr_eval.specs.Sorts.{SortReading, sort_of}
 use Rattle.expr_eval.specs.Outcomes.{Reading, outcome_by, outcome_of}

@@ -13,13 +13,13 @@ use Rattle.property_types.specs.declared.value.ValueFault.{ValueFault}
 use Rattle.property_types.specs.declared.value.ValueFault.TheVariants.{Range, DivideByZero}
 use Rattle.property_types.specs.declared.value.Value.TheVariants.{Number, Flag, Text}
 use Rattle.property_types.specs.Values.{Outcome, same_value}
-use Rattle.expr_grammar.specs.declared.expr.UnitPower.{UnitPower}
-use Rattle.expr_grammar.specs.declared.operators.BinaryOp.{BinaryOp}
-use Rattle.expr_grammar.specs.declared.operators.BinaryOp.TheVariants.{Plus, Minus, Times, Over, Modulo}
-use Rattle.expr_grammar.specs.declared.operators.CompareOp.{CompareOp}
-use Rattle.expr_grammar.specs.declared.operators.CompareOp.TheVariants.{Equal, NotEqual, Less, LessOrEqual, Greater, GreaterOrEqual}
-use Rattle.expr_tokens.specs.declared.functions.FunctionOp.{FunctionOp}
-use Rattle.expr_tokens.specs.declared.functions.FunctionOp.TheVariants.{Abs, Ceil, Floor, Round, Trunc}
+use Rattle.expr_tree.specs.declared.expr.UnitPower.{UnitPower}
+use Rattle.expr_tree.specs.declared.operators.BinaryOp.{BinaryOp}
+use Rattle.expr_tree.specs.declared.operators.BinaryOp.TheVariants.{Plus, Minus, Times, Over, Modulo}
+use Rattle.expr_tree.specs.declared.operators.CompareOp.{CompareOp}
+use Rattle.expr_tree.specs.declared.operators.CompareOp.TheVariants.{Equal, NotEqual, Less, LessOrEqual, Greater, GreaterOrEqual}
+use Rattle.expr_tree.specs.declared.functions.FunctionOp.{FunctionOp}
+use Rattle.expr_tree.specs.declared.functions.FunctionOp.TheVariants.{Abs, Ceil, Floor, Round, Trunc}
 use Rattle.expr_eval.specs.Firsts.{on_two}
 
 -- a number, or the fault in its place

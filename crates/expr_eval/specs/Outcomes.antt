@@ -5,9 +5,9 @@ use Rattle.property_types.specs.declared.value.ValueFault.{ValueFault}
 use Rattle.property_types.specs.declared.value.ValueFault.TheVariants.{OutOfType}
 use Rattle.property_types.specs.declared.value.Value.TheVariants as value
 use Rattle.property_types.specs.Values.{Outcome}
-use Rattle.expr_grammar.specs.References.{reference_count}
-use Rattle.expr_grammar.specs.Tree.{Tree, literal, unit_one, flag, text, path, negate, binary, power, compare, conditional, function, modulo, aggregate, Arguments, no_more, tree, cells}
-use Rattle.expr_grammar.specs.declared.operators.BinaryOp.TheVariants.{Modulo}
+use Rattle.expr_tree.specs.References.{reference_count}
+use Rattle.expr_tree.specs.Tree.{Tree, literal, unit_one, flag, text, path, negate, binary, power, compare, conditional, function, modulo, aggregate, Arguments, no_more, tree, cells}
+use Rattle.expr_tree.specs.declared.operators.BinaryOp.TheVariants.{Modulo}
 use Rattle.expr_eval.specs.Firsts.{on_one, on_two, all_of}
 use Rattle.expr_eval.specs.Numbers.{Numeric, number_of, flag_of, literal_outcome, unit_outcome, negated, binary_outcome, power_outcome, function_outcome, compared, chosen}
 use Rattle.expr_eval.specs.Aggregates.{aggregate_outcome}

@@ -2,9 +2,9 @@
 use Rattle.std.specs.Prelude.{◌≡◌, ℕ, ◌+◌, List, [], ◌∷◌, ◌++◌, Result, Ok, Err}
 use Rattle.property_types.specs.declared.prop_type.Sort.{Sort}
 use Rattle.property_types.specs.declared.prop_type.Sort.TheVariants as sort
-use Rattle.expr_grammar.specs.References.{reference_count}
-use Rattle.expr_grammar.specs.Tree.{Tree, literal, unit_one, flag, text, path, negate, binary, power, compare, conditional, function, modulo, aggregate, Arguments, no_more, tree, cells}
-use Rattle.expr_grammar.specs.declared.operators.BinaryOp.TheVariants.{Modulo}
+use Rattle.expr_tree.specs.References.{reference_count}
+use Rattle.expr_tree.specs.Tree.{Tree, literal, unit_one, flag, text, path, negate, binary, power, compare, conditional, function, modulo, aggregate, Arguments, no_more, tree, cells}
+use Rattle.expr_tree.specs.declared.operators.BinaryOp.TheVariants.{Modulo}
 use Rattle.expr_eval.specs.declared.sort_cause.SortFault.{SortFault}
 use Rattle.expr_eval.specs.declared.sort_cause.SortFault.TheVariants.{Cause, Memory}
 use Rattle.expr_eval.specs.Firsts.{on_one, on_two, on_three, all_of}

@@ -2,9 +2,9 @@
 use Rattle.std.specs.Prelude.{◌≡◌, ℕ}
 use Rattle.fc_base.specs.Places.{Block}
 use Rattle.object_paths.specs.declared.path.Path.{Path}
-use Rattle.expr_grammar.specs.Tree.{Tree}
-use Rattle.expr_grammar.specs.References.{with_references}
-use Rattle.expr_grammar.specs.Numbered.{with_numbered}
+use Rattle.expr_tree.specs.Tree.{Tree}
+use Rattle.expr_tree.specs.References.{with_references}
+use Rattle.expr_tree.specs.Numbered.{with_numbered}
 use Rattle.expr_eval.specs.Sorts.{SortReading, sort_of}
 use Rattle.expr_eval.specs.Outcomes.{Reading, outcome_of}
 

@@ -4,7 +4,7 @@ ghost use Rattle.std.specs.Int.{int_max, int_min};
 ghost use Rattle.expr_eval.specs.Aggregates.{aggregate_outcome, amounts, average_outcome, best_outcome, count_of, mean, total, unit_of_all};
 
 use crate::numbers::calculated;
-use expr_grammar::AggregateOp;
+use expr_tree::AggregateOp;
 use property_types::{Outcome, Value, ValueFault};
 use quantities::{Amount, AmountFault, Quantity, Range};
 use unit_signatures::Unit;

@@ -5,7 +5,7 @@ ghost use Rattle.expr_eval.specs.Firsts.{on_two};
 ghost use Rattle.expr_eval.specs.Numbers.{compared, holds};
 
 use crate::numbers::number_of;
-use expr_grammar::CompareOp;
+use expr_tree::CompareOp;
 use property_types::{Outcome, Value, ValueFault};
 
 /// Whether two values are the same.

@@ -1,7 +1,7 @@
 ghost use Rattle.std.specs.Prelude.{◌≡◌, ◌+◌, ◌-◌, ◌<◌, ◌≤◌, ◌^◌, ◌++◌, map, min, IfOk, OnOk};
-ghost use Rattle.expr_grammar.specs.Levels.{arguments_of};
-ghost use Rattle.expr_grammar.specs.Nodes.{argument_nodes, node_count};
-ghost use Rattle.expr_grammar.specs.References.{argument_reference_count, reference_count};
+ghost use Rattle.expr_tree.specs.NodesAsTrees.{arguments_of};
+ghost use Rattle.expr_tree.specs.Nodes.{argument_nodes, node_count};
+ghost use Rattle.expr_tree.specs.References.{argument_reference_count, reference_count};
 ghost use Rattle.property_types.specs.declared.value.ValueFault.TheVariants.{OutOfType};
 ghost use Rattle.expr_eval.specs.Aggregates.{aggregate_outcome};
 ghost use Rattle.expr_eval.specs.Firsts.{all_of, on_one};
@@ -16,8 +16,7 @@ use crate::numbers::{
     Numeric, binary_outcome, function_outcome, into_flag, into_number, literal_outcome, negated,
     number_of, power_outcome, unit_outcome,
 };
-use crate::references::reference_count;
-use expr_grammar::{AggregateOp, Argument, BinaryOp, Expr, Node};
+use expr_tree::{AggregateOp, Argument, BinaryOp, Expr, Node, reference_count};
 use fc_base::Steps;
 use property_types::{Outcome, Value, copy_outcome};
 use std::alloc::{AllocError, Global};

@@ -8,13 +8,12 @@ mod env;
 mod evaluation;
 pub mod laws;
 mod numbers;
-mod references;
 mod sort_cause;
 mod sort_rows;
 mod sorts;
 
 pub use env::Env;
 pub use evaluation::evaluate;
-pub use references::reference_count;
+pub use expr_tree::reference_count;
 pub use sort_cause::{SortCause, SortFault, SortOutcome};
 pub use sorts::sort_of;

@@ -6,7 +6,7 @@ ghost use Rattle.property_types.specs.declared.value.ValueFault.TheVariants.{Out
 ghost use Rattle.expr_eval.specs.Firsts.{on_one, on_two};
 ghost use Rattle.expr_eval.specs.Numbers.{binary_outcome, calculated, combined, flag_of, function_on, function_outcome, literal_outcome, negated, number_of, of_unit, power_outcome, settled, unit_number, unit_outcome};
 
-use expr_grammar::{BinaryOp, FunctionOp, UnitPower};
+use expr_tree::{BinaryOp, FunctionOp, UnitPower};
 use fc_base::Name;
 use property_types::{Outcome, Value, ValueFault};
 use quantities::{Amount, AmountFault, Quantity, QuantityFault, Range};

@@ -6,7 +6,7 @@ ghost use Rattle.expr_eval.specs.Firsts.{all_of, on_one, on_three, on_two};
 ghost use Rattle.expr_eval.specs.SortRows.{aggregate_sort, binary_sort, compare_sort, conditional_sort, is_number_sort, literal_sort, number_in, number_sort, one_sort, one_unit, one_unit_sort, power_sort, unit_of_two, unit_sort};
 
 use crate::sort_cause::{SortCause, SortOutcome};
-use expr_grammar::{AggregateOp, BinaryOp, CompareOp, UnitPower};
+use expr_tree::{AggregateOp, BinaryOp, CompareOp, UnitPower};
 use fc_base::Name;
 use property_types::Sort;
 use unit_signatures::{ExponentRange, Unit, unit_named};

@@ -1,19 +1,18 @@
 ghost use Rattle.std.specs.Prelude.{◌≡◌, ◌+◌, ◌<◌, ◌^◌, IfOk, OnOk, ◌++◌};
-ghost use Rattle.expr_grammar.specs.Levels.{arguments_of};
-ghost use Rattle.expr_grammar.specs.References.{argument_reference_count, reference_count};
+ghost use Rattle.expr_tree.specs.NodesAsTrees.{arguments_of};
+ghost use Rattle.expr_tree.specs.References.{argument_reference_count, reference_count};
 ghost use Rattle.expr_eval.specs.Firsts.{all_of, on_one};
 ghost use Rattle.expr_eval.specs.SortRows.{aggregate_sort};
 ghost use Rattle.expr_eval.specs.Sorts.{HasSort, item_sorts, sort_of};
 
 use crate::all_of::all_of;
 use crate::env::Env;
-use crate::references::reference_count;
 use crate::sort_cause::{SortCause, SortFault, SortOutcome};
 use crate::sort_rows::{
     aggregate_sort, binary_sort, compare_sort, conditional_sort, literal_sort, number_sort,
     power_sort, unit_sort,
 };
-use expr_grammar::{AggregateOp, Argument, BinaryOp, Expr, Node};
+use expr_tree::{AggregateOp, Argument, BinaryOp, Expr, Node, reference_count};
 use property_types::Sort;
 use std::alloc::{AllocError, Global};
 

@@ -1,16 +1,16 @@
 -- Arguments are read one by one.
 use Rattle.std.proofs.Common.{◌≡◌, List, [], ◌∷◌, ◌++◌, Some, None, refl, ap, sym, ◌∙◌}
 use Rattle.fc_base.specs.Places.{Block}
-use Rattle.expr_grammar.specs.declared.expr.Argument.{Argument}
-use Rattle.expr_grammar.specs.declared.expr.Argument.TheVariants as argument
+use Rattle.expr_tree.specs.declared.expr.Argument.{Argument}
+use Rattle.expr_tree.specs.declared.expr.Argument.TheVariants as argument
 use Rattle.expr_tokens.specs.declared.token.Token.{Token}
 use Rattle.expr_grammar.specs.Descent.{Parsed, ◌>>=◌, parsed, parsed_arguments, whole_readers, arguments_step, arguments_behind, behind_separator, area_in_front}
 use Rattle.expr_grammar.specs.Grammar.{expression}
-use Rattle.expr_grammar.specs.Levels.{arguments_of}
-use Rattle.expr_grammar.specs.Joined.{with_argument}
+use Rattle.expr_tree.specs.NodesAsTrees.{arguments_of}
+use Rattle.expr_tree.specs.Joined.{with_argument}
 use Rattle.expr_grammar.specs.Reading.{area_or_tree, argument_in_front, behind_arguments}
-use Rattle.expr_grammar.specs.Tree.{Tree, Arguments, no_more, tree}
-use Rattle.expr_grammar.proofs.JoinedLemmas.{joined-append, joined-no_more}
+use Rattle.expr_tree.specs.Tree.{Tree, Arguments, no_more, tree}
+use Rattle.expr_tree.proofs.JoinedLemmas.{joined-append, joined-no_more}
 use Rattle.expr_grammar.proofs.LevelEquations.{arguments_is}
 
 -- a tree, as an argument, and what follows it

@@ -17,17 +17,17 @@ use Rattle.expr_tokens.specs.declared.token.Token.{Token}
 use Rattle.expr_tokens.specs.declared.token.Token.TheVariants as token
 use Rattle.expr_tokens.specs.FirstReference.{dot_follows, begins_reference, first_reference_among}
 use Rattle.expr_tokens.specs.Kinds.{is_dot, tokens_of}
-use Rattle.expr_grammar.specs.declared.expr.UnitPower.{UnitPower}
-use Rattle.expr_grammar.specs.declared.operators.BinaryOp.{BinaryOp}
-use Rattle.expr_grammar.specs.declared.operators.BinaryOp.TheVariants as binary_op
-use Rattle.expr_grammar.specs.declared.operators.CompareOp.{CompareOp}
-use Rattle.expr_grammar.specs.declared.operators.CompareOp.TheVariants as compare_op
+use Rattle.expr_tree.specs.declared.expr.UnitPower.{UnitPower}
+use Rattle.expr_tree.specs.declared.operators.BinaryOp.{BinaryOp}
+use Rattle.expr_tree.specs.declared.operators.BinaryOp.TheVariants as binary_op
+use Rattle.expr_tree.specs.declared.operators.CompareOp.{CompareOp}
+use Rattle.expr_tree.specs.declared.operators.CompareOp.TheVariants as compare_op
 use Rattle.expr_grammar.specs.Grammar.{Level, expression, binary_sign, compare_sign, IsExponent, plain, negative, IsUnit, alone, raised, IsCorner, named, marked, IsSeparator, semicolon, comma, HasTree, a_comparison, a_sum, a_term, a_unary, a_power, a_primary, a_conditional, a_compare, a_binary, a_negate, a_raised, a_numeral, a_measure, a_unit, a_flag, a_text, a_path, in_brackets, a_function, a_modulo, an_aggregate, HasArguments, one_tree, more_trees, one_area, more_areas}
 use Rattle.expr_grammar.specs.Parse.{reference_place, first_reference, ClosedHasNoReferences}
 use Rattle.expr_grammar.specs.PathTokens as p
 use Rattle.expr_grammar.specs.PathTokens.{slot_tokens, IsPathOf, behind_point}
-use Rattle.expr_grammar.specs.References.{reference_count, argument_reference_count}
-use Rattle.expr_grammar.specs.Tree.{Tree, Arguments}
+use Rattle.expr_tree.specs.References.{reference_count, argument_reference_count}
+use Rattle.expr_tree.specs.Tree.{Tree, Arguments}
 use Rattle.expr_grammar.proofs.ReferenceLimit.{length-tokens_of}
 
 -- a path or an area begins with one of the tokens

@@ -8,23 +8,23 @@ use Rattle.object_paths.specs.declared.slot_name.SlotName.TheVariants as slot
 use Rattle.object_paths.specs.declared.path.Owner as w
 use Rattle.object_paths.specs.declared.path.Path.{Path}
 use Rattle.object_paths.specs.declared.path.Owner.TheVariants as owner
-use Rattle.expr_grammar.specs.declared.operators.BinaryOp as b
-use Rattle.expr_grammar.specs.declared.operators.BinaryOp.TheVariants as binary_op
-use Rattle.expr_grammar.specs.declared.operators.CompareOp as o
-use Rattle.expr_grammar.specs.declared.operators.CompareOp.TheVariants as compare_op
-use Rattle.expr_tokens.specs.declared.functions.FunctionOp as f
-use Rattle.expr_tokens.specs.declared.functions.FunctionOp.TheVariants as function_op
-use Rattle.expr_tokens.specs.declared.functions.AggregateOp as g
-use Rattle.expr_tokens.specs.declared.functions.AggregateOp.TheVariants as aggregate_op
+use Rattle.expr_tree.specs.declared.operators.BinaryOp as b
+use Rattle.expr_tree.specs.declared.operators.BinaryOp.TheVariants as binary_op
+use Rattle.expr_tree.specs.declared.operators.CompareOp as o
+use Rattle.expr_tree.specs.declared.operators.CompareOp.TheVariants as compare_op
+use Rattle.expr_tree.specs.declared.functions.FunctionOp as f
+use Rattle.expr_tree.specs.declared.functions.FunctionOp.TheVariants as function_op
+use Rattle.expr_tree.specs.declared.functions.AggregateOp as g
+use Rattle.expr_tree.specs.declared.functions.AggregateOp.TheVariants as aggregate_op
 use Rattle.expr_tokens.specs.declared.sign.Sign as s
 use Rattle.expr_tokens.specs.declared.sign.Sign.TheVariants as sign
 use Rattle.expr_tokens.specs.declared.token.Token.{Token}
 use Rattle.expr_tokens.specs.declared.token.Token.TheVariants as token
 use Rattle.expr_grammar.specs.Descent.{Parsed, ◌>>=◌, behind_sign, sign_in_front, with_bracket, behind_separator, called, primary_step, unary_step, operation_in_front, comparison_in_front, operands_step, exponents_step, sides, arms, corner_of, argument_ends, is_block, area_of, area_in_front, parsed, parsed_operands, parsed_exponents, whole_readers}
-use Rattle.expr_tokens.specs.Functions.{function_name, function_named, aggregate_name}
+use Rattle.expr_tree.specs.Functions.{function_name, function_named, aggregate_name}
 use Rattle.expr_grammar.specs.Grammar.{Level, expression, comparison, sum, term, unary, powers, primary, binary_sign, compare_sign, binary_level, right_level, IsCorner, named, marked, IsSeparator, semicolon, comma, HoldsExponent, HasTree, a_comparison, a_sum, a_term, a_unary, a_power, a_primary, a_conditional, a_compare, a_binary, a_negate, a_raised, a_numeral, a_measure, a_unit, a_flag, a_text, a_path, in_brackets, a_function, a_modulo, an_aggregate}
 use Rattle.expr_grammar.specs.PathTokens.{slot_tokens, owner_tokens, IsPathOf, plain, behind_point}
-use Rattle.expr_grammar.specs.Tree.{Tree, flag, path, function}
+use Rattle.expr_tree.specs.Tree.{Tree, flag, path, function}
 use Rattle.expr_grammar.proofs.FrontLemmas.{AllParsed}
 use Rattle.expr_grammar.proofs.StepsSound.{BeginsWithArea, area_in_front-rest}
 use Rattle.expr_grammar.proofs.DescentEquations.{parsed-is, operands-is, exponents-is}

@@ -2,18 +2,18 @@
 use Rattle.std.proofs.Common.{◌≡◌, ℕ, zero, suc, ◌+◌, ◌*◌, ◌<◌, ◌≤◌, Bool, true, false, List, [], ◌∷◌, ◌++◌, length, length-append, Option, None, Some, refl, ◌∙◌, ap, arith, ◌-◌}
 use Rattle.std.specs.Str.{bytes_eq}
 use Rattle.fc_base.specs.Places.{Block}
-use Rattle.expr_grammar.specs.declared.operators.BinaryOp as b
-use Rattle.expr_grammar.specs.declared.operators.CompareOp as o
-use Rattle.expr_tokens.specs.declared.functions.FunctionOp as f
-use Rattle.expr_tokens.specs.declared.functions.AggregateOp as g
+use Rattle.expr_tree.specs.declared.operators.BinaryOp as b
+use Rattle.expr_tree.specs.declared.operators.CompareOp as o
+use Rattle.expr_tree.specs.declared.functions.FunctionOp as f
+use Rattle.expr_tree.specs.declared.functions.AggregateOp as g
 use Rattle.expr_tokens.specs.declared.sign.Sign as s
 use Rattle.expr_tokens.specs.declared.sign.Sign.TheVariants as sign
 use Rattle.expr_tokens.specs.declared.token.Token.{Token}
 use Rattle.expr_tokens.specs.declared.token.Token.TheVariants as token
 use Rattle.expr_grammar.specs.Descent.{Parsed, ◌>>=◌, Readers, behind_sign, exponent_in_front, with_bracket, behind_separator, second_argument, called, call, signed_primary, primary_step, unary_step, operation_in_front, comparison_in_front, operands_step, exponents_step, sides, other_arm, arms, level_step, area_in_front, further_arguments, arguments_step, next_readers, readers, height, level_steps, further_steps, argument_steps, parsed, parsed_operands, parsed_exponents, parsed_arguments, whole_readers}
-use Rattle.expr_tokens.specs.Functions.{function_named, modulo_name, aggregate_named}
+use Rattle.expr_tree.specs.Functions.{function_named, modulo_name, aggregate_named}
 use Rattle.expr_grammar.specs.Grammar.{Level, expression, comparison, sum, term, unary, powers, primary, compare_sign, right_level}
-use Rattle.expr_grammar.specs.Tree.{Tree, binary, power, aggregate, Arguments, tree, cells}
+use Rattle.expr_tree.specs.Tree.{Tree, binary, power, aggregate, Arguments, tree, cells}
 use Rattle.expr_grammar.proofs.FrontLemmas.{AllParsed, AllRests, behind_sign-rest, BeginsWithExponent, exponent_in_front-rest}
 use Rattle.expr_grammar.proofs.DescentSound.{Separated, behind_separator-rest}
 use Rattle.expr_grammar.proofs.StepsSound.{BeginsWithOperation, operation_in_front-rest, comparison_in_front-rest, BeginsWithArea, area_in_front-rest, readers-sound}

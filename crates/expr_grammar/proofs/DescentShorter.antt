@@ -9,7 +9,7 @@ use Rattle.expr_tokens.specs.declared.token.Token.{Token}
 use Rattle.expr_grammar.specs.Descent.{Parsed, Readers}
 use Rattle.expr_grammar.specs.Grammar.{Level, HasTree, a_comparison, a_sum, a_term, a_unary, a_power, a_primary, a_conditional, a_compare, a_binary, a_negate, a_raised, a_numeral, a_measure, a_unit, a_flag, a_text, a_path, in_brackets, a_function, a_modulo, an_aggregate, HasArguments, one_tree, more_trees, one_area, more_areas}
 use Rattle.expr_grammar.specs.PathTokens.{owner_tokens, slot_tokens, IsPathOf, plain, behind_point}
-use Rattle.expr_grammar.specs.Tree.{Tree, Arguments}
+use Rattle.expr_tree.specs.Tree.{Tree, Arguments}
 use Rattle.expr_grammar.proofs.FrontLemmas.{AllParsed}
 use Rattle.expr_grammar.proofs.DescentSound.{ReadsTree, GoesOn, RaisesBase, ReadsArguments, Sound}
 

@@ -8,17 +8,17 @@ use Rattle.object_paths.specs.declared.slot_name.SlotName.TheVariants as slot
 use Rattle.object_paths.specs.declared.path.Owner as w
 use Rattle.object_paths.specs.declared.path.Owner.TheVariants as owner
 use Rattle.object_paths.specs.declared.path.Path.{Path}
-use Rattle.expr_tokens.specs.declared.functions.FunctionOp as f
-use Rattle.expr_tokens.specs.declared.functions.AggregateOp as g
+use Rattle.expr_tree.specs.declared.functions.FunctionOp as f
+use Rattle.expr_tree.specs.declared.functions.AggregateOp as g
 use Rattle.expr_tokens.specs.declared.sign.Sign as s
 use Rattle.expr_tokens.specs.declared.sign.Sign.TheVariants as sign
 use Rattle.expr_tokens.specs.declared.token.Token.{Token}
 use Rattle.expr_tokens.specs.declared.token.Token.TheVariants as token
 use Rattle.expr_grammar.specs.Descent.{Parsed, ◌>>=◌, Readers, behind_sign, sign_in_front, exponent_in_front, measured, numeral_behind, slot_in_front, named_path, as_tree, slot_of_label, own_slot, text_or_label, closed, with_bracket, separates, behind_separating, behind_separator, second_argument, called, call, signed_primary, primary_step}
-use Rattle.expr_tokens.specs.Functions.{function_name, function_named, modulo_name, aggregate_name, aggregate_named}
+use Rattle.expr_tree.specs.Functions.{function_name, function_named, modulo_name, aggregate_name, aggregate_named}
 use Rattle.expr_grammar.specs.Grammar.{Level, expression, powers, primary, alone, raised, IsSeparator, semicolon, comma, HoldsExponent, HasTree, a_numeral, a_measure, a_unit, a_flag, a_text, a_path, in_brackets, a_function, a_modulo, an_aggregate, HasArguments}
 use Rattle.expr_grammar.specs.PathTokens.{dot, owner_tokens, slot_tokens, IsPathOf, plain, behind_point}
-use Rattle.expr_grammar.specs.Tree.{Tree, literal, path, function, modulo, aggregate, Arguments}
+use Rattle.expr_tree.specs.Tree.{Tree, literal, path, function, modulo, aggregate, Arguments}
 use Rattle.expr_grammar.proofs.FrontLemmas.{AllParsed, AllRests, bind-all, behind, joined, behind_sign-rest, sign_in_front-rest, BeginsWithExponent, exponent_in_front-rest}
 use Rattle.expr_grammar.proofs.PathFrontLemmas.{AllSome, on_cond, BeginsWith, slot_in_front-rest, BeginsWithPath, named_path-rest}
 

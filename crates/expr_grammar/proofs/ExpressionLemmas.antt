@@ -14,17 +14,17 @@ use Rattle.expr_grammar.specs.declared.fault.ParseFault.{ParseFault}
 use Rattle.expr_grammar.specs.declared.fault.ParseFault.TheVariants as fault
 use Rattle.expr_grammar.specs.Descent.{of_all, parsed}
 use Rattle.expr_grammar.specs.Grammar.{HasTree, expression}
-use Rattle.expr_grammar.specs.Parse.{IsLexed, Parses, HasCause, HasSyntaxAlone, MeetsGrammar, MeetsParse, reference_place, tree_or_misplaced, within_limits, of_lexemes, expression_of, first_reference, without_reference, closed_expression_of, Tells, ExpressionParses, FaultIsCause}
-use Rattle.expr_grammar.specs.Tree.{Tree}
+use Rattle.expr_grammar.specs.Parse.{IsLexed, Parses, HasCause, HasSyntaxAlone, MeetsGrammar, MeetsParse, reference_place, tree_or_misplaced, within_limits, of_lexemes, expression_in, first_reference, without_reference, closed_expression_in, Tells, ExpressionParses, FaultIsCause}
+use Rattle.expr_tree.specs.Tree.{Tree}
 use Rattle.expr_grammar.proofs.OneTree.{whole-read, of_all-sound, of_all-none}
 
 -- what a text with these lexemes has
 lexed-is : (text : List ℕ) (xs : List Placed) → IsLexed text xs
-    → expression_of text ≡ tree_or_misplaced xs (length text) (of_all (parsed expression (tokens_of xs)))
-unfolding expression_of
+    → expression_in text ≡ tree_or_misplaced xs (length text) (of_all (parsed expression (tokens_of xs)))
+unfolding expression_in
 lexed-is text xs h = ap (of_lexemes (length text)) h.lexemes ∙ ap (within_limits xs (length text)) h.within
 
-pub parses-found : (text : List ℕ) (t : Tree) → Parses text t → expression_of text ≡ Ok t
+pub parses-found : (text : List ℕ) (t : Tree) → Parses text t → expression_in text ≡ Ok t
 parses-found text t h =
     lexed-is text h.lexemes h.spelled
     ∙ ap (λ (x : Option Tree). tree_or_misplaced h.lexemes (length text) x) (ap of_all (whole-read expression (tokens_of h.lexemes) t h.tree))
@@ -36,8 +36,8 @@ none-read xs none None e = refl
 none-read xs none (Some t) e = absurd (none t (of_all-sound (tokens_of xs) t e))
 
 pub cause-found : (text : List ℕ) (why : c.ExprCause) (place : ℕ) → HasCause text why place
-    → expression_of text ≡ Err (record { place = place; cause = why })
-unfolding expression_of
+    → expression_in text ≡ Err (record { place = place; cause = why })
+unfolding expression_in
 cause-found text cause.Lexical place h = ap (of_lexemes (length text)) h.first
 cause-found text cause.TooLarge place h =
     ap (of_lexemes (length text)) h.spelled ∙ ap (within_limits h.lexemes (length text)) h.first
@@ -64,11 +64,11 @@ lexemes-mean : (text : List ℕ) (x : Result (List Placed) ℕ) → lexed text �
 lexemes-mean text (Ok xs) e = limits-mean text xs e (excess xs) refl
 lexemes-mean text (Err place) e = record { first = e }
 
-means : (text : List ℕ) → Means text (expression_of text)
-unfolding expression_of
+means : (text : List ℕ) → Means text (expression_in text)
+unfolding expression_in
 means text = lexemes-mean text (lexed text) refl
 
-pub found-parses : (text : List ℕ) (t : Tree) → expression_of text ≡ Ok t → Parses text t
+pub found-parses : (text : List ℕ) (t : Tree) → expression_in text ≡ Ok t → Parses text t
 found-parses text t e = subst (Means text) e (means text)
 
 pub expression_parses : ExpressionParses
@@ -90,7 +90,7 @@ meets text xs h (Err (fault.Expr f)) none = syntax-alone text xs h f.cause f.pla
 meets text xs h (Err (fault.Memory e)) none = tt
 
 -- what meets the relation is what is found
-pub tells : (text : List ℕ) (r : Result Tree ParseFault) → MeetsParse text r → Tells (expression_of text) r
+pub tells : (text : List ℕ) (r : Result Tree ParseFault) → MeetsParse text r → Tells (expression_in text) r
 tells text (Ok t) h = parses-found text t h
 tells text (Err (fault.Expr f)) h = cause-found text f.cause f.place h
 tells text (Err (fault.Memory e)) h = tt
@@ -100,25 +100,25 @@ fault-stays : (place : Option ℕ) (f : ExprFault) → without_reference place (
 fault-stays None f = refl
 fault-stays (Some place) f = refl
 
-closed-fault : (text : List ℕ) (e : ParseFault) → MeetsParse text (Err e) → Tells (closed_expression_of text) (Err e)
-unfolding closed_expression_of
+closed-fault : (text : List ℕ) (e : ParseFault) → MeetsParse text (Err e) → Tells (closed_expression_in text) (Err e)
+unfolding closed_expression_in
 closed-fault text (fault.Expr f) h =
     ap (without_reference (first_reference text)) (cause-found text f.cause f.place h) ∙ fault-stays (first_reference text) f
 closed-fault text (fault.Memory e) h = tt
 
-pub closed-error : (text : List ℕ) (r : Result Tree ParseFault) → IsErr r → MeetsParse text r → Tells (closed_expression_of text) r
+pub closed-error : (text : List ℕ) (r : Result Tree ParseFault) → IsErr r → MeetsParse text r → Tells (closed_expression_in text) r
 closed-error text (Ok t) is h = absurd (cc)
 closed-error text (Err e) is h = closed-fault text e h
 
 -- what is found of lexemes within the limits that have a tree
 pub closed-found : (text : List ℕ) (xs : List Placed) (ts : List Token) (t : Tree) (place : Option ℕ) → IsLexed text xs → ts ≡ tokens_of xs
     → HasTree expression (tokens_of xs) t → place ≡ first_reference_among (map (λ x. x.place) xs) ts
-    → closed_expression_of text ≡ without_reference place (Ok t)
-unfolding closed_expression_of first_reference
+    → closed_expression_in text ≡ without_reference place (Ok t)
+unfolding closed_expression_in first_reference
 closed-found text xs ts t place h same tree at =
     let first : first_reference text ≡ place =
     ap reference_place h.lexemes ∙ sym (at ∙ ap (first_reference_among (map (λ x. x.place) xs)) same) in
-    let found : expression_of text ≡ Ok t = parses-found text t (record { lexemes = xs; spelled = h; tree = tree }) in
+    let found : expression_in text ≡ Ok t = parses-found text t (record { lexemes = xs; spelled = h; tree = tree }) in
     ap (λ (found : Result Tree ExprFault). without_reference (first_reference text) found) found ∙ ap (λ (place : Option ℕ). without_reference place (Ok t)) first
 
 -- where a tree is left, it is that of the text, and there is no reference
@@ -126,14 +126,14 @@ pub record IsClosed (text : List ℕ) (t : Tree) : Type 0 where
   pub parses : Parses text t
   pub none : first_reference text ≡ None
 
-kept : (text : List ℕ) (t : Tree) (place : Option ℕ) → first_reference text ≡ place → (found : Result Tree ExprFault) → expression_of text ≡ found
+kept : (text : List ℕ) (t : Tree) (place : Option ℕ) → first_reference text ≡ place → (found : Result Tree ExprFault) → expression_in text ≡ found
     → without_reference place found ≡ Ok t → IsClosed text t
 kept text t None none found e is = record { parses = found-parses text t (e ∙ is); none = none }
 kept text t (Some place) none (Ok u) e is = absurd (cc)
 kept text t (Some place) none (Err f) e is = absurd (cc)
 
-pub closed_is : (text : List ℕ) (r : Result Tree ParseFault) → Tells (closed_expression_of text) r → IfOk r (IsClosed text)
-unfolding closed_expression_of
-closed_is text (Ok t) h = kept text t (first_reference text) refl (expression_of text) refl h
+pub closed_is : (text : List ℕ) (r : Result Tree ParseFault) → Tells (closed_expression_in text) r → IfOk r (IsClosed text)
+unfolding closed_expression_in
+closed_is text (Ok t) h = kept text t (first_reference text) refl (expression_in text) refl h
 closed_is text (Err (fault.Expr f)) h = tt
 closed_is text (Err (fault.Memory e)) h = tt

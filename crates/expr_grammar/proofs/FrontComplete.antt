@@ -9,7 +9,7 @@ use Rattle.object_paths.specs.declared.slot_name.SlotName.TheVariants as slot
 use Rattle.object_paths.specs.declared.path.Owner as w
 use Rattle.object_paths.specs.declared.path.Owner.TheVariants as owner
 use Rattle.object_paths.specs.declared.path.Path.{Path}
-use Rattle.expr_grammar.specs.declared.expr.UnitPower.{UnitPower}
+use Rattle.expr_tree.specs.declared.expr.UnitPower.{UnitPower}
 use Rattle.expr_tokens.specs.declared.sign.Sign.TheVariants as sign
 use Rattle.expr_tokens.specs.declared.token.Token.{Token}
 use Rattle.expr_tokens.specs.declared.token.Token.TheVariants as token
@@ -19,7 +19,7 @@ use Rattle.expr_grammar.specs.Grammar.IsExponent.{plain, negative}
 use Rattle.expr_grammar.specs.Grammar.IsUnit.{alone, raised}
 use Rattle.expr_grammar.specs.PathTokens.{dot, component_tokens, owner_tokens, slot_tokens, CanOwn, IsPathOf}
 use Rattle.expr_grammar.specs.PathTokens.{plain as spelled, behind_point}
-use Rattle.expr_grammar.specs.Tree.{literal, path}
+use Rattle.expr_tree.specs.Tree.{literal, path}
 
 -- exponents
 

@@ -4,7 +4,7 @@ use Rattle.expr_tokens.specs.declared.sign.Sign.TheVariants as sign
 use Rattle.expr_tokens.specs.declared.token.Token.{Token}
 use Rattle.expr_grammar.specs.Descent.{◌>>=◌, parsed, parsed_operands, parsed_exponents, parsed_arguments, operands_step, exponents_step, arguments_step, whole_readers, arms, sides, unary_step, primary_step, operation_in_front, comparison_in_front, behind_sign, area_in_front}
 use Rattle.expr_grammar.specs.Grammar.{Level, expression, comparison, sum, term, unary, powers, primary}
-use Rattle.expr_grammar.specs.Tree.{Tree}
+use Rattle.expr_tree.specs.Tree.{Tree}
 use Rattle.expr_grammar.proofs.DescentEquations.{parsed-is, operands-is, exponents-is, arguments-is}
 
 pub expression_is : (ts : List Token) → parsed expression ts ≡ (parsed comparison ts >>= λ c rest. arms whole_readers c (behind_sign sign.Question rest) rest)

@@ -1,6 +1,4 @@
-pub mod ReferenceLemmas
 pub mod ReferenceLimit
-pub mod NumberedLemmas
 pub mod FrontLemmas
 pub mod PathFrontLemmas
 pub mod DescentSound
@@ -16,13 +14,9 @@ pub mod NumeralLemmas
 pub mod ReadingLemmas
 pub mod PrintedLemmas
 pub mod ReadBack
-pub mod BracketLemmas
 pub mod LevelEquations
-pub mod JoinedLemmas
 pub mod ArgumentLemmas
-pub mod ArgumentNodes
 pub mod SpelledLemmas
 pub mod SpelledTrees
-pub mod RenamingLemmas
 pub mod ExpressionLemmas
 pub mod ClosedLemmas

@@ -19,7 +19,7 @@ use Rattle.expr_tokens.specs.declared.sign.Sign.TheVariants as sign
 use Rattle.expr_tokens.specs.declared.token.Lexeme.{Lexeme}
 use Rattle.expr_tokens.specs.declared.token.Lexeme.TheVariants.{Numeral, Sign}
 use Rattle.expr_tokens.specs.Lexemes.{short_number}
-use Rattle.expr_grammar.specs.Spelled.{is_exponent, IsNumeral}
+use Rattle.expr_tree.specs.Spelled.{is_exponent, IsNumeral}
 use Rattle.expr_tokens.proofs.AlphabetLemmas.{begins_past}
 use Rattle.expr_tokens.proofs.ByteLemmas.{is_decimal_byte}
 use Rattle.expr_tokens.proofs.LexemeLemmas.{Lexes, lexes_numeral, lexes_minus}

@@ -4,7 +4,7 @@ use Rattle.std.proofs.lemmas.List.{append-nil}
 use Rattle.expr_tokens.specs.declared.token.Token.{Token}
 use Rattle.expr_grammar.specs.Descent.{Parsed, parsed, of_all, level_steps}
 use Rattle.expr_grammar.specs.Grammar.{Level, expression, comparison, sum, term, unary, powers, primary, HasTree}
-use Rattle.expr_grammar.specs.Tree.{Tree}
+use Rattle.expr_tree.specs.Tree.{Tree}
 use Rattle.expr_grammar.proofs.FrontLemmas.{AllParsed}
 use Rattle.expr_grammar.proofs.DescentSound.{ReadsTree}
 use Rattle.expr_grammar.proofs.StepsSound.{readers-sound}

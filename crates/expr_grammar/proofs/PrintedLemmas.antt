@@ -20,7 +20,7 @@ use Rattle.object_paths.specs.declared.slot_name.SlotName.{SlotName}
 use Rattle.object_paths.specs.declared.slot_name.SlotName.TheVariants as slot
 use Rattle.object_paths.specs.declared.path.Owner.{Owner}
 use Rattle.object_paths.specs.declared.path.Owner.TheVariants.{Here, ByName, ByLabel}
-use Rattle.expr_grammar.specs.declared.expr.UnitPower.{UnitPower}
+use Rattle.expr_tree.specs.declared.expr.UnitPower.{UnitPower}
 use Rattle.expr_tokens.specs.declared.sign.Sign.TheVariants as sign
 use Rattle.expr_tokens.specs.declared.token.Lexeme.{Lexeme}
 use Rattle.expr_tokens.specs.declared.token.Lexeme.TheVariants.{Numeral, Identifier, Marked, Text, Sign}
@@ -30,7 +30,7 @@ use Rattle.expr_tokens.specs.Kinds.{bracket_follows, point_follows, lone_word, w
 use Rattle.expr_tokens.specs.Lexemes.{short_number}
 use Rattle.expr_grammar.specs.PathTokens.{dot, component_tokens, slot_tokens}
 use Rattle.expr_grammar.specs.Printed.{exponent_text, measure_text, flag_text, area_text}
-use Rattle.expr_grammar.specs.Spelled.{is_exponent, is_unit_name, IsUnitPower, is_quotable, IsNumeral, IsArea}
+use Rattle.expr_tree.specs.Spelled.{is_exponent, is_unit_name, IsUnitPower, is_quotable, IsNumeral, IsArea}
 use Rattle.expr_grammar.specs.TreeTokens.{exponent_tokens, raised_tokens, measure_tokens, front_tokens, corner_token, area_tokens}
 use Rattle.expr_tokens.proofs.AsciiNames.{ascii_name, unit_name, digit_no_word, address_name, address_digit}
 use Rattle.expr_tokens.proofs.LexemeLemmas.{Lexes, gap, lexes_name, lexes_marked, lexes_text, lexes_colon, lexes_caret, lexes_dot}

@@ -1,25 +1,25 @@
 -- A printed tree is read back.
 use Rattle.std.proofs.Common.{◌≡◌, ℕ, false, List, [], ◌++◌, Result, Ok, refl, sym, ap, subst, ◌∙◌, append-nil}
 use Rattle.object_paths.specs.PathTexts.{path_text}
-use Rattle.expr_grammar.specs.declared.operators.BinaryOp.{BinaryOp}
-use Rattle.expr_grammar.specs.declared.operators.BinaryOp.TheVariants.{Plus, Minus, Times, Over, Modulo}
-use Rattle.expr_grammar.specs.declared.operators.CompareOp.{CompareOp}
-use Rattle.expr_grammar.specs.declared.operators.CompareOp.TheVariants.{Equal, NotEqual, Less, LessOrEqual, Greater, GreaterOrEqual}
-use Rattle.expr_tokens.specs.declared.functions.FunctionOp.{FunctionOp}
-use Rattle.expr_tokens.specs.declared.functions.FunctionOp.TheVariants.{Abs, Ceil, Floor, Round, Trunc}
-use Rattle.expr_tokens.specs.declared.functions.AggregateOp.{AggregateOp}
-use Rattle.expr_tokens.specs.declared.functions.AggregateOp.TheVariants.{Sum, Average, Count, Min, Max}
+use Rattle.expr_tree.specs.declared.operators.BinaryOp.{BinaryOp}
+use Rattle.expr_tree.specs.declared.operators.BinaryOp.TheVariants.{Plus, Minus, Times, Over, Modulo}
+use Rattle.expr_tree.specs.declared.operators.CompareOp.{CompareOp}
+use Rattle.expr_tree.specs.declared.operators.CompareOp.TheVariants.{Equal, NotEqual, Less, LessOrEqual, Greater, GreaterOrEqual}
+use Rattle.expr_tree.specs.declared.functions.FunctionOp.{FunctionOp}
+use Rattle.expr_tree.specs.declared.functions.FunctionOp.TheVariants.{Abs, Ceil, Floor, Round, Trunc}
+use Rattle.expr_tree.specs.declared.functions.AggregateOp.{AggregateOp}
+use Rattle.expr_tree.specs.declared.functions.AggregateOp.TheVariants.{Sum, Average, Count, Min, Max}
 use Rattle.expr_tokens.specs.declared.sign.Sign.TheVariants as sign
 use Rattle.expr_tokens.specs.declared.token.Placed.{Placed}
 use Rattle.expr_tokens.specs.declared.token.Token.{Token}
-use Rattle.expr_tokens.specs.Functions.{function_name, modulo_name, aggregate_name}
+use Rattle.expr_tree.specs.Functions.{function_name, modulo_name, aggregate_name}
 use Rattle.expr_grammar.specs.Grammar.{unary, comparison, sum, expression, binary_level, right_level, binary_sign, compare_sign, HasTree}
 use Rattle.expr_tokens.specs.Kinds.{is_open, is_dot, kinds, tokens_of}
 use Rattle.expr_tokens.specs.Lexemes.{lexed}
 use Rattle.expr_grammar.specs.Parse.{IsLexed, Parses}
 use Rattle.expr_grammar.specs.Printed.{fits, fits_as_base, call_text, separator_text, printed, printed_arguments}
-use Rattle.expr_grammar.specs.Spelled.{IsSpelled, AreSpelled}
-use Rattle.expr_grammar.specs.Tree.{Tree, literal, unit_one, flag, text, path, negate, binary, power, compare, conditional, function, modulo, aggregate, Arguments, no_more, tree, cells}
+use Rattle.expr_tree.specs.Spelled.{IsSpelled, AreSpelled}
+use Rattle.expr_tree.specs.Tree.{Tree, literal, unit_one, flag, text, path, negate, binary, power, compare, conditional, function, modulo, aggregate, Arguments, no_more, tree, cells}
 use Rattle.expr_grammar.specs.TreeTokens.{call_tokens, separator_tokens, tree_tokens, argument_tokens}
 use Rattle.expr_tokens.proofs.AsciiNames.{ascii_name}
 use Rattle.expr_tokens.proofs.LexemeLemmas.{finished, placed_from}

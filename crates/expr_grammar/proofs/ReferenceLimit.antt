@@ -19,8 +19,8 @@ use Rattle.expr_tokens.specs.Limits.{excess_from, open_behind, most_tokens, most
 use Rattle.expr_grammar.specs.Parse.{Parses, MeetsParse}
 use Rattle.expr_grammar.specs.PathTokens as p
 use Rattle.expr_grammar.specs.PathTokens.{slot_tokens, owner_tokens, IsPathOf, behind_point}
-use Rattle.expr_grammar.specs.References.{reference_count, argument_reference_count}
-use Rattle.expr_grammar.specs.Tree.{Tree, Arguments}
+use Rattle.expr_tree.specs.References.{reference_count, argument_reference_count}
+use Rattle.expr_tree.specs.Tree.{Tree, Arguments}
 
 -- a path has a token
 slot_some : (name : SlotName) → 1 ≤ length (slot_tokens name)

@@ -20,7 +20,7 @@ use Rattle.expr_tokens.specs.declared.token.Placed.{Placed}
 use Rattle.expr_tokens.specs.Lexemes.{numeral_of, has_mark, is_marked_address, spells_word, identifier_of, marked_of, of_length, numeral_at, word_at, quoted, mark_or_word, lexeme_at, in_front, with_lexeme, lexed_from}
 use Rattle.expr_tokens.specs.Longest.{longest}
 use Rattle.expr_tokens.specs.Signs.{sign_at}
-use Rattle.expr_grammar.specs.Spelled.{is_quotable, IsNumeral}
+use Rattle.expr_tree.specs.Spelled.{is_quotable, IsNumeral}
 use Rattle.expr_tokens.proofs.LongestLemmas.{longest-passes}
 
 -- ---- lexemes

@@ -14,8 +14,8 @@ use Rattle.object_paths.specs.declared.path.Owner.{Owner}
 use Rattle.object_paths.specs.declared.path.Owner.TheVariants.{Here, ByName, ByLabel}
 use Rattle.object_paths.specs.declared.path.Path.{Path}
 use Rattle.object_paths.specs.Paths.{IsSlotName, IsOwner, IsPath}
-use Rattle.expr_grammar.specs.declared.expr.UnitPower.{UnitPower}
-use Rattle.expr_tokens.specs.declared.functions.AggregateOp.{AggregateOp}
+use Rattle.expr_tree.specs.declared.expr.UnitPower.{UnitPower}
+use Rattle.expr_tree.specs.declared.functions.AggregateOp.{AggregateOp}
 use Rattle.expr_tokens.specs.declared.sign.Sign.TheVariants as sign
 use Rattle.expr_tokens.specs.declared.token.Lexeme.{Lexeme}
 use Rattle.expr_tokens.specs.declared.token.Lexeme.TheVariants.{Numeral, Identifier, Marked, Text, Sign}
@@ -27,8 +27,8 @@ use Rattle.expr_tokens.specs.Kinds.{is_point, bracket_follows, point_follows, lo
 use Rattle.expr_grammar.specs.PathTokens as p
 use Rattle.expr_grammar.specs.PathTokens.{dot, component_tokens, slot_tokens, owner_tokens, path_tokens, CanOwn, IsPathOf, behind_point}
 use Rattle.expr_grammar.specs.Parse.{Parses}
-use Rattle.expr_grammar.specs.Spelled.{is_exponent, is_unit_name, IsUnitPower, is_quotable, IsNumeral, IsSpelled, AreSpelled}
-use Rattle.expr_grammar.specs.Tree.{Tree, aggregate, Arguments, no_more, tree, cells}
+use Rattle.expr_tree.specs.Spelled.{is_exponent, is_unit_name, IsUnitPower, is_quotable, IsNumeral, IsSpelled, AreSpelled}
+use Rattle.expr_tree.specs.Tree.{Tree, aggregate, Arguments, no_more, tree, cells}
 use Rattle.expr_grammar.proofs.TokenLemmas.{HasSome}
 use Rattle.expr_grammar.proofs.SpelledLemmas.{IsSpelledLexeme, AreSpelledLexemes, AreSpelledPlaced, lexed_from-spelled}
 

@@ -4,8 +4,8 @@ use Rattle.std.specs.Prelude.{◌&&◌, nat_le}
 use Rattle.std.proofs.lemmas.Bool.{and_parts, leb-true}
 use Rattle.std.proofs.lemmas.List.{append-nil}
 use Rattle.fc_base.specs.Places.{Place, Block, IsBlock, address_of}
-use Rattle.expr_grammar.specs.declared.operators.BinaryOp as b
-use Rattle.expr_grammar.specs.declared.operators.CompareOp as o
+use Rattle.expr_tree.specs.declared.operators.BinaryOp as b
+use Rattle.expr_tree.specs.declared.operators.CompareOp as o
 use Rattle.expr_tokens.specs.declared.sign.Sign as s
 use Rattle.expr_tokens.specs.declared.sign.Sign.TheVariants as sign
 use Rattle.expr_tokens.specs.declared.token.Token.{Token}
@@ -13,7 +13,7 @@ use Rattle.expr_tokens.specs.declared.token.Token.TheVariants as token
 use Rattle.expr_grammar.specs.Descent.{Parsed, Readers, behind_sign, sign_in_front, exponent_in_front, behind_separator, primary_step, unary_step, compare_of, sum_of, product_of, operation_of, with_tokens, operation_in_front, comparison_in_front, operands_step, exponents_step, sides, other_arm, arms, level_step, corner_of, argument_ends, is_block, area_of, second_corner, area_in_front, further_arguments, arguments_behind, arguments_step, next_readers, readers}
 use Rattle.expr_grammar.specs.Grammar.{Level, expression, comparison, sum, term, unary, powers, primary, binary_sign, compare_sign, binary_level, right_level, IsCorner, IsSeparator, HoldsExponent, HasTree, a_comparison, a_sum, a_term, a_unary, a_power, a_primary, a_conditional, a_compare, a_binary, a_negate, a_raised, HasArguments, one_tree, more_trees, one_area, more_areas}
 use Rattle.expr_grammar.specs.Grammar.IsCorner.{named, marked}
-use Rattle.expr_grammar.specs.Tree.{Tree, negate, binary, power, compare, conditional, Arguments, no_more, tree, cells}
+use Rattle.expr_tree.specs.Tree.{Tree, negate, binary, power, compare, conditional, Arguments, no_more, tree, cells}
 use Rattle.expr_grammar.proofs.FrontLemmas.{AllParsed, AllRests, bind-all, behind, joined, behind_sign-rest, sign_in_front-rest, BeginsWithExponent, exponent_in_front-rest}
 use Rattle.expr_grammar.proofs.PathFrontLemmas.{AllSome, on_cond}
 use Rattle.expr_grammar.proofs.DescentSound.{ReadsTree, ReadsBase, GoesOn, RaisesBase, ReadsArguments, Sound, weaker, Separated, behind_separator-rest, primary_step-sound}

@@ -13,21 +13,21 @@ use Rattle.object_paths.specs.declared.slot_name.SlotName.{SlotName}
 use Rattle.object_paths.specs.declared.slot_name.SlotName.TheVariants.{Plain, Component, Marked}
 use Rattle.object_paths.specs.declared.path.Owner.{Owner}
 use Rattle.object_paths.specs.declared.path.Owner.TheVariants.{Here, ByName, ByLabel}
-use Rattle.expr_grammar.specs.declared.expr.UnitPower.{UnitPower}
+use Rattle.expr_tree.specs.declared.expr.UnitPower.{UnitPower}
 use Rattle.expr_tokens.specs.declared.sign.Sign as s
 use Rattle.expr_tokens.specs.declared.sign.Sign.TheVariants as sign
 use Rattle.expr_tokens.specs.declared.token.Token.{Token}
 use Rattle.expr_tokens.specs.declared.token.Token.TheVariants as token
-use Rattle.expr_tokens.specs.declared.functions.AggregateOp.{AggregateOp}
-use Rattle.expr_grammar.specs.declared.operators.BinaryOp.TheVariants.{Plus, Minus, Times, Over, Modulo}
+use Rattle.expr_tree.specs.declared.functions.AggregateOp.{AggregateOp}
+use Rattle.expr_tree.specs.declared.operators.BinaryOp.TheVariants.{Plus, Minus, Times, Over, Modulo}
 use Rattle.expr_grammar.specs.Grammar.{Level, expression, comparison, sum, term, unary, powers, primary, binary_level, right_level, IsExponent, plain, negative, IsUnit, alone, raised, IsCorner, named, marked, semicolon, HoldsExponent, HasTree, a_comparison, a_sum, a_term, a_unary, a_power, a_primary, a_conditional, a_compare, a_binary, a_negate, a_raised, a_numeral, a_measure, a_unit, a_flag, a_text, a_path, in_brackets, a_function, a_modulo, an_aggregate, HasArguments, one_tree, more_trees, one_area, more_areas}
-use Rattle.expr_tokens.specs.Functions.{modulo_name}
+use Rattle.expr_tree.specs.Functions.{modulo_name}
 use Rattle.expr_tokens.specs.Lexemes.{short_number}
 use Rattle.expr_grammar.specs.PathTokens as p
 use Rattle.expr_grammar.specs.PathTokens.{dot, slot_tokens, IsPathOf, behind_point}
 use Rattle.expr_grammar.specs.Printed.{tightness, level_of, fits, is_measure, fits_as_base}
-use Rattle.expr_grammar.specs.Spelled.{is_exponent, IsUnitPower, IsArea, IsSpelled, AreSpelled}
-use Rattle.expr_grammar.specs.Tree.{Tree, literal, unit_one, flag, text, path, negate, binary, power, compare, conditional, function, modulo, aggregate, Arguments, no_more, tree, cells}
+use Rattle.expr_tree.specs.Spelled.{is_exponent, IsUnitPower, IsArea, IsSpelled, AreSpelled}
+use Rattle.expr_tree.specs.Tree.{Tree, literal, unit_one, flag, text, path, negate, binary, power, compare, conditional, function, modulo, aggregate, Arguments, no_more, tree, cells}
 use Rattle.expr_grammar.specs.TreeTokens.{bracketed_tokens, exponent_tokens, raised_tokens, measure_tokens, printed_path_tokens, corner_token, tree_tokens, argument_tokens}
 
 -- ---- levels

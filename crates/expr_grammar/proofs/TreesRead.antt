@@ -1,16 +1,16 @@
 -- The descent gives each tree of the grammar, and so a list of tokens has one tree at most.
 use Rattle.std.proofs.Common.{◌≡◌, ℤ, List, [], ◌∷◌, ◌++◌, Option, None, Some, refl, sym, ◌∙◌, ap, append_assoc}
 use Rattle.fc_base.specs.Places.{Block}
-use Rattle.expr_grammar.specs.declared.operators.BinaryOp as b
-use Rattle.expr_grammar.specs.declared.operators.CompareOp as o
-use Rattle.expr_grammar.specs.declared.operators.CompareOp.TheVariants as compare_op
+use Rattle.expr_tree.specs.declared.operators.BinaryOp as b
+use Rattle.expr_tree.specs.declared.operators.CompareOp as o
+use Rattle.expr_tree.specs.declared.operators.CompareOp.TheVariants as compare_op
 use Rattle.expr_tokens.specs.declared.sign.Sign.TheVariants as sign
 use Rattle.expr_tokens.specs.declared.token.Token.{Token}
 use Rattle.expr_tokens.specs.declared.token.Token.TheVariants as token
 use Rattle.expr_grammar.specs.Descent.{Parsed, ◌>>=◌, behind_sign, text_or_label, with_bracket, behind_separator, second_argument, operation_in_front, comparison_in_front, operands_step, sides, other_arm, arms, further_arguments, arguments_behind, arguments_step, parsed, parsed_operands, parsed_exponents, parsed_arguments, whole_readers}
-use Rattle.expr_tokens.specs.Functions.{function_name, modulo_name, aggregate_name}
+use Rattle.expr_tree.specs.Functions.{function_name, modulo_name, aggregate_name}
 use Rattle.expr_grammar.specs.Grammar.{Level, expression, comparison, sum, term, unary, powers, primary, binary_sign, compare_sign, binary_level, right_level, HasTree, a_comparison, a_sum, a_term, a_unary, a_power, a_primary, a_conditional, a_compare, a_binary, a_negate, a_raised, a_numeral, a_measure, a_unit, a_flag, a_text, a_path, in_brackets, a_function, a_modulo, an_aggregate, HasArguments, one_tree, more_trees, one_area, more_areas}
-use Rattle.expr_grammar.specs.Tree.{Tree, negate, binary, power, compare, conditional, function, modulo, aggregate, Arguments, tree, cells}
+use Rattle.expr_tree.specs.Tree.{Tree, negate, binary, power, compare, conditional, function, modulo, aggregate, Arguments, tree, cells}
 use Rattle.expr_grammar.proofs.DescentEquations.{parsed-is, operands-is, exponents-is, arguments-is}
 use Rattle.expr_grammar.proofs.FrontComplete.{exponent-read, numeral-read, measure-read, path-read}
 use Rattle.expr_grammar.proofs.DescentComplete.{EndsSum, Ends, closing, ends-primary, unary-read, powers-read, term-read, sum-read, comparison-read, expression-read, operands-end, ends_at_colon, ends_at_close, ends_at_separator, ends_at_question, ends_at_comparison, comparison-in_front, ends_at_operation, operation-in_front, closing-operation, ends_right, right-closing, no_minus, called-aggregate, called-function, separator-in_front, EndsArgument, separator-ends, area-read, no_area}

@@ -10,20 +10,20 @@ use Rattle.object_paths.specs.declared.slot_name.SlotName.{SlotName}
 use Rattle.object_paths.specs.declared.slot_name.SlotName.TheVariants as slot
 use Rattle.object_paths.specs.declared.path.Owner.TheVariants as owner
 use Rattle.object_paths.specs.declared.path.Path.{Path}
-use Rattle.expr_grammar.specs.declared.operators.BinaryOp as b
-use Rattle.expr_grammar.specs.declared.operators.BinaryOp.TheVariants as binary_op
-use Rattle.expr_grammar.specs.declared.operators.CompareOp as o
-use Rattle.expr_grammar.specs.declared.operators.CompareOp.TheVariants as compare_op
-use Rattle.expr_tokens.specs.declared.functions.FunctionOp as f
-use Rattle.expr_tokens.specs.declared.functions.AggregateOp as g
+use Rattle.expr_tree.specs.declared.operators.BinaryOp as b
+use Rattle.expr_tree.specs.declared.operators.BinaryOp.TheVariants as binary_op
+use Rattle.expr_tree.specs.declared.operators.CompareOp as o
+use Rattle.expr_tree.specs.declared.operators.CompareOp.TheVariants as compare_op
+use Rattle.expr_tree.specs.declared.functions.FunctionOp as f
+use Rattle.expr_tree.specs.declared.functions.AggregateOp as g
 use Rattle.expr_tokens.specs.declared.sign.Sign as s
 use Rattle.expr_tokens.specs.declared.sign.Sign.TheVariants as sign
 use Rattle.expr_tokens.specs.declared.token.Token.{Token}
 use Rattle.expr_tokens.specs.declared.token.Token.TheVariants as token
-use Rattle.expr_tokens.specs.Functions.{function_named, modulo_name, aggregate_named}
+use Rattle.expr_tree.specs.Functions.{function_named, modulo_name, aggregate_named}
 use Rattle.expr_grammar.specs.Grammar.{Level, expression, comparison, sum, term, unary, powers, primary, right_level}
 use Rattle.expr_tokens.specs.SignNumbers.{same_sign}
-use Rattle.expr_grammar.specs.Tree.{Tree, literal, unit_one, flag, text, path, negate, binary, power, compare, conditional, function, modulo, aggregate, Arguments, no_more, tree, cells}
+use Rattle.expr_tree.specs.Tree.{Tree, literal, unit_one, flag, text, path, negate, binary, power, compare, conditional, function, modulo, aggregate, Arguments, no_more, tree, cells}
 
 -- something read, and the tokens behind it
 abbrev pub Parsed : Type 0 → Type 0

@@ -2,22 +2,22 @@
 use Rattle.std.specs.Prelude.{◌≡◌, ℕ, ℤ, pos, neg_ℤ, ◌<◌, Bool, List, [], ◌∷◌, ◌++◌, Option, None, Some}
 use Rattle.fc_base.specs.Places.{Place, Block, IsBlock, address_of}
 use Rattle.object_paths.specs.declared.path.Path.{Path}
-use Rattle.expr_grammar.specs.declared.expr.UnitPower.{UnitPower}
-use Rattle.expr_grammar.specs.declared.operators.BinaryOp.{BinaryOp}
-use Rattle.expr_grammar.specs.declared.operators.BinaryOp.TheVariants.{Plus, Minus, Times, Over, Modulo}
-use Rattle.expr_grammar.specs.declared.operators.CompareOp.{CompareOp}
-use Rattle.expr_grammar.specs.declared.operators.CompareOp.TheVariants.{Equal, NotEqual, Less, LessOrEqual, Greater, GreaterOrEqual}
-use Rattle.expr_tokens.specs.declared.functions.FunctionOp.{FunctionOp}
-use Rattle.expr_tokens.specs.declared.functions.AggregateOp.{AggregateOp}
+use Rattle.expr_tree.specs.declared.expr.UnitPower.{UnitPower}
+use Rattle.expr_tree.specs.declared.operators.BinaryOp.{BinaryOp}
+use Rattle.expr_tree.specs.declared.operators.BinaryOp.TheVariants.{Plus, Minus, Times, Over, Modulo}
+use Rattle.expr_tree.specs.declared.operators.CompareOp.{CompareOp}
+use Rattle.expr_tree.specs.declared.operators.CompareOp.TheVariants.{Equal, NotEqual, Less, LessOrEqual, Greater, GreaterOrEqual}
+use Rattle.expr_tree.specs.declared.functions.FunctionOp.{FunctionOp}
+use Rattle.expr_tree.specs.declared.functions.AggregateOp.{AggregateOp}
 use Rattle.expr_tokens.specs.declared.sign.Sign as s
 use Rattle.expr_tokens.specs.declared.sign.Sign.TheVariants as sign
 use Rattle.expr_tokens.specs.declared.token.Token.{Token}
 use Rattle.expr_tokens.specs.declared.token.Token.TheVariants as token
-use Rattle.expr_tokens.specs.Functions.{function_name, modulo_name, aggregate_name}
+use Rattle.expr_tree.specs.Functions.{function_name, modulo_name, aggregate_name}
 use Rattle.expr_grammar.specs.PathTokens.{IsPathOf}
-use Rattle.expr_grammar.specs.Tree.{Tree, literal, unit_one, flag, text, path, negate, binary, power, compare, conditional, function, modulo, aggregate, Arguments, no_more, tree, cells}
+use Rattle.expr_tree.specs.Tree.{Tree, literal, unit_one, flag, text, path, negate, binary, power, compare, conditional, function, modulo, aggregate, Arguments, no_more, tree, cells}
 
--- The levels of the grammar, loosest first.
+-- The levels of the grammar, loosest first: the precedence of the operators.
 pub data Level : Type 0 where
   expression : Level
   comparison : Level

@@ -4,7 +4,7 @@ use Rattle.expr_tokens.specs.declared.token.Placed.{Placed}
 use Rattle.expr_tokens.specs.Lexemes.{lexed}
 use Rattle.expr_tokens.specs.Limits.{excess}
 use Rattle.expr_grammar.specs.Printed.{printed}
-use Rattle.expr_grammar.specs.Tree.{Tree}
+use Rattle.expr_tree.specs.Tree.{Tree}
 
 -- lexemes with one token too many, or one bracket open too many
 abbrev pub are_too_many : Result (List Placed) ℕ → Bool

@@ -13,8 +13,8 @@ use Rattle.expr_tokens.specs.Kinds.{tokens_of}
 use Rattle.expr_tokens.specs.Lexemes.{lexed}
 use Rattle.expr_tokens.specs.Limits.{excess}
 use Rattle.expr_tokens.specs.Misplaced.{misplaced}
-use Rattle.expr_grammar.specs.References.{reference_count}
-use Rattle.expr_grammar.specs.Tree.{Tree}
+use Rattle.expr_tree.specs.References.{reference_count}
+use Rattle.expr_tree.specs.Tree.{Tree}
 
 -- the text is lexemes within the limits
 pub record IsLexed (text : List ℕ) (xs : List Placed) : Type 0 where
@@ -96,8 +96,8 @@ of_lexemes end (Err place) = Err (record { place = place; cause = cause.Lexical 
 of_lexemes end (Ok xs) = within_limits xs end (excess xs)
 
 -- the tree of a text, or the first cause why it has none, with its place
-unfoldable pub expression_of : List ℕ → Result Tree ExprFault
-expression_of text = of_lexemes (length text) (lexed text)
+unfoldable pub expression_in : List ℕ → Result Tree ExprFault
+expression_in text = of_lexemes (length text) (lexed text)
 
 -- the place of the first reference among lexemes, or none
 abbrev pub reference_place : Result (List Placed) ℕ → Option ℕ
@@ -115,8 +115,8 @@ without_reference (Some place) (Ok t) = Err (record { place = place; cause = cau
 without_reference (Some place) (Err f) = Err f
 
 -- the tree of a text without paths and areas, or the first cause why it has none, with its place
-unfoldable pub closed_expression_of : List ℕ → Result Tree ExprFault
-closed_expression_of text = without_reference (first_reference text) (expression_of text)
+unfoldable pub closed_expression_in : List ℕ → Result Tree ExprFault
+closed_expression_in text = without_reference (first_reference text) (expression_in text)
 
 -- an answer is what was to be found, or want of memory
 abbrev pub Tells : Result Tree ExprFault → Result Tree ParseFault → Type 0
@@ -126,11 +126,11 @@ Tells found (Err (fault.Memory e)) = Unit {0}
 
 -- a text has the tree exactly where it parses as it
 abbrev pub ExpressionParses : Type 0
-ExpressionParses = (text : List ℕ) (t : Tree) → (expression_of text ≡ Ok t) ↔ Parses text t
+ExpressionParses = (text : List ℕ) (t : Tree) → (expression_in text ≡ Ok t) ↔ Parses text t
 
 -- a text has the fault exactly where it has that cause at that place
 abbrev pub FaultIsCause : Type 0
-FaultIsCause = (text : List ℕ) (f : ExprFault) → (expression_of text ≡ Err f) ↔ HasCause text f.cause f.place
+FaultIsCause = (text : List ℕ) (f : ExprFault) → (expression_in text ≡ Err f) ↔ HasCause text f.cause f.place
 
 -- a text that parses has no first reference exactly where its tree has no references
 abbrev pub ClosedHasNoReferences : Type 0

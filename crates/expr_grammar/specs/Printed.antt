@@ -5,11 +5,11 @@ use Rattle.std.specs.Ordering.{int_eq}
 use Rattle.fc_base.specs.Places.{Block, address_text}
 use Rattle.quantities.specs.Texts.{decimal_text}
 use Rattle.object_paths.specs.PathTexts.{path_text}
-use Rattle.expr_grammar.specs.declared.expr.UnitPower.{UnitPower}
-use Rattle.expr_tokens.specs.Functions.{function_name, modulo_name, aggregate_name}
+use Rattle.expr_tree.specs.declared.expr.UnitPower.{UnitPower}
+use Rattle.expr_tree.specs.Functions.{function_name, modulo_name, aggregate_name}
 use Rattle.expr_grammar.specs.Grammar.{Level, expression, comparison, sum, term, unary, powers, primary, binary_level, right_level, binary_sign, compare_sign}
 use Rattle.expr_tokens.specs.Signs.{sign_text}
-use Rattle.expr_grammar.specs.Tree.{Tree, literal, unit_one, flag, text, path, negate, binary, power, compare, conditional, function, modulo, aggregate, Arguments, no_more, tree, cells}
+use Rattle.expr_tree.specs.Tree.{Tree, literal, unit_one, flag, text, path, negate, binary, power, compare, conditional, function, modulo, aggregate, Arguments, no_more, tree, cells}
 
 -- the levels by number, the loosest first
 abbrev pub tightness : Level → ℕ

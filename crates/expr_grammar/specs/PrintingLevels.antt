@@ -1,3 +1,4 @@
+-- Private: only contracts inside this crate cite this.
 -- The levels of the grammar as the code has them.
 use Rattle.expr_grammar.specs.declared.tightness.Tightness.{Tightness}
 use Rattle.expr_grammar.specs.declared.tightness.Tightness.TheVariants as tightness

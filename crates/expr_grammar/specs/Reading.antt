@@ -1,25 +1,26 @@
+-- Private: only contracts inside this crate cite this.
 -- What a reader of tokens answers, against what stands in front of them.
 use Rattle.std.specs.Prelude.{◌≡◌, Bool, true, false, List, [], ◌∷◌, Option, None, Some, Result, Ok, Err}
 use Rattle.expr_tokens.specs.declared.token.Token.{Token}
-use Rattle.expr_grammar.specs.declared.stop.Stop.{Stop}
-use Rattle.expr_grammar.specs.declared.stop.Stop.TheVariants.{Syntax, Memory}
+use Rattle.expr_grammar.specs.declared.no_tree.NoTree.{NoTree}
+use Rattle.expr_grammar.specs.declared.no_tree.NoTree.TheVariants.{Syntax, Memory}
 use Rattle.fc_base.specs.Places.{Block}
-use Rattle.expr_grammar.specs.declared.expr.Argument.{Argument}
-use Rattle.expr_grammar.specs.declared.expr.Argument.TheVariants as argument
-use Rattle.expr_tokens.specs.declared.functions.AggregateOp.{AggregateOp}
+use Rattle.expr_tree.specs.declared.expr.Argument.{Argument}
+use Rattle.expr_tree.specs.declared.expr.Argument.TheVariants as argument
+use Rattle.expr_tree.specs.declared.functions.AggregateOp.{AggregateOp}
 use Rattle.expr_grammar.specs.Descent.{Parsed, ◌>>=◌, parsed, parsed_arguments, whole_readers, second_argument, with_bracket, behind_separator, area_in_front, of_all}
 use Rattle.expr_grammar.specs.Grammar.{expression}
-use Rattle.expr_grammar.specs.Joined.{joined}
-use Rattle.expr_grammar.specs.Tree.{Tree, aggregate, Arguments}
+use Rattle.expr_tree.specs.Joined.{joined}
+use Rattle.expr_tree.specs.Tree.{Tree, aggregate, Arguments}
 
 -- it read what there is to read, and left the tokens behind it; Syntax comes where there is none
-abbrev pub Gives : {A : Type 0} → Result A Stop → List Token → Parsed A → Type 0
+abbrev pub Gives : {A : Type 0} → Result A NoTree → List Token → Parsed A → Type 0
 Gives (Ok x) rest p = p ≡ Some (x, rest)
 Gives (Err Syntax) rest p = p ≡ None
 Gives (Err (Memory e)) rest p = Unit {0}
 
 -- the same, of what the answer stands for
-abbrev pub GivesBy : {A B : Type 0} → (A → B) → Result A Stop → List Token → Parsed B → Type 0
+abbrev pub GivesBy : {A B : Type 0} → (A → B) → Result A NoTree → List Token → Parsed B → Type 0
 GivesBy meaning (Ok x) rest p = p ≡ Some (meaning x, rest)
 GivesBy meaning (Err Syntax) rest p = p ≡ None
 GivesBy meaning (Err (Memory e)) rest p = Unit {0}
@@ -60,7 +61,7 @@ abbrev pub behind_arguments : List Argument → Parsed Arguments → Parsed Argu
 behind_arguments xs p = p >>= λ more rest. Some (joined xs more, rest)
 
 -- the tokens, all of them, are the tree; Syntax comes where they are none
-abbrev pub GivesWhole : Result Tree Stop → List Token → Type 0
+abbrev pub GivesWhole : Result Tree NoTree → List Token → Type 0
 GivesWhole (Ok t) ts = of_all (parsed expression ts) ≡ Some t
 GivesWhole (Err Syntax) ts = of_all (parsed expression ts) ≡ None
 GivesWhole (Err (Memory e)) ts = Unit {0}

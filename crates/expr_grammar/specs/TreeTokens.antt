@@ -8,16 +8,16 @@ use Rattle.object_paths.specs.declared.slot_name.SlotName.{SlotName}
 use Rattle.object_paths.specs.declared.path.Owner.{Owner}
 use Rattle.object_paths.specs.declared.path.Owner.TheVariants.{Here, ByName, ByLabel}
 use Rattle.object_paths.specs.declared.path.Path.{Path}
-use Rattle.expr_grammar.specs.declared.expr.UnitPower.{UnitPower}
+use Rattle.expr_tree.specs.declared.expr.UnitPower.{UnitPower}
 use Rattle.expr_tokens.specs.declared.sign.Sign.TheVariants as sign
 use Rattle.expr_tokens.specs.declared.token.Token.{Token}
 use Rattle.expr_tokens.specs.declared.token.Token.TheVariants as token
-use Rattle.expr_tokens.specs.Functions.{function_name, modulo_name, aggregate_name}
+use Rattle.expr_tree.specs.Functions.{function_name, modulo_name, aggregate_name}
 use Rattle.expr_grammar.specs.Grammar.{unary, comparison, sum, binary_level, right_level, binary_sign, compare_sign}
 use Rattle.expr_tokens.specs.Lexemes.{short_number}
 use Rattle.expr_grammar.specs.PathTokens.{dot, slot_tokens}
 use Rattle.expr_grammar.specs.Printed.{fits, fits_as_base}
-use Rattle.expr_grammar.specs.Tree.{Tree, literal, unit_one, flag, text, path, negate, binary, power, compare, conditional, function, modulo, aggregate, Arguments, no_more, tree, cells}
+use Rattle.expr_tree.specs.Tree.{Tree, literal, unit_one, flag, text, path, negate, binary, power, compare, conditional, function, modulo, aggregate, Arguments, no_more, tree, cells}
 
 -- in brackets, where it may not stand as it is
 abbrev pub bracketed_tokens : Bool → List Token → List Token

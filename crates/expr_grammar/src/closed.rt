@@ -1,12 +1,13 @@
 ghost use Rattle.std.specs.Prelude.{◌≡◌, ◌≤◌, IfOk, Ok};
-ghost use Rattle.expr_grammar.specs.Parse.{closed_expression_of, Tells, without_reference};
-ghost use Rattle.expr_grammar.specs.References.{reference_count};
-ghost use Rattle.expr_grammar.specs.Spelled.{IsSpelled};
+ghost use Rattle.expr_tokens.specs.Limits.{most_tokens};
+ghost use Rattle.expr_grammar.specs.Parse.{closed_expression_in, Tells, without_reference};
+ghost use Rattle.expr_tree.specs.References.{reference_count};
+ghost use Rattle.expr_tree.specs.Spelled.{IsSpelled};
 
-use crate::expr::Expr;
 use crate::fault::{ExprCause, ParseFault};
 use crate::parsing::{fault, lexemes_within_limits, tree_of};
 use expr_tokens::{place_of_reference, tokens};
+use expr_tree::Expr;
 use std::alloc::Global;
 
 /// The tree, but where there is a reference, a fault at its place.
@@ -24,9 +25,9 @@ fn without_reference(place: Option<u64>, tree: Expr) -> Result<Expr, ParseFault>
 /// The causes are those of `parse`, and behind them Syntax at the first token with which a path or
 /// an area begins.
 pub fn parse_closed(alloc: Global, text: &str) -> Result<Expr, ParseFault>
-    ensures found { Tells (closed_expression_of text.now) result }
+    ensures found { Tells (closed_expression_in text.now) result }
     ensures spelled { IfOk result IsSpelled }
-    ensures references { IfOk result (λ e. reference_count e ≤ 512) }
+    ensures references { IfOk result (λ e. reference_count e ≤ most_tokens) }
     ensures closed { IfOk result (λ e. reference_count e ≡ 0) }
 {
     let lexemes = lexemes_within_limits(alloc, text)?;

@@ -1,14 +1,16 @@
+//! From tokens to trees. The precedence of the operators is decided here: each level of the grammar
+//! is a method, which reads its operands by the method of the next tighter level.
 ghost use Rattle.std.specs.Prelude.{◌≡◌, ◌<◌, ◌≤◌, length, OnOk};
 ghost use Rattle.expr_grammar.specs.Descent as d;
 ghost use Rattle.expr_grammar.specs.Grammar.{expression, comparison, sum, term, unary, powers, primary};
-ghost use Rattle.expr_grammar.specs.Levels.{arguments_of};
+ghost use Rattle.expr_tree.specs.NodesAsTrees.{arguments_of};
 ghost use Rattle.expr_grammar.specs.Reading.{Gives, GivesBy, GivesWhole, modulo_in_front, aggregate_in_front, argument_in_front};
 ghost use Rattle.expr_tokens.specs.declared.sign.Sign.TheVariants as sign;
 
-use crate::expr::{Argument, Expr, Node};
+use crate::no_tree::NoTree;
 use crate::parser::Parser;
-use crate::stop::Stop;
-use expr_tokens::{AggregateOp, Sign, Token, aggregate_named, function_named};
+use expr_tokens::{Sign, Token};
+use expr_tree::{AggregateOp, Argument, Expr, FunctionOp, Node};
 use fc_base::Name;
 use object_paths::{Owner, Path, SlotName};
 use std::alloc::Global;
@@ -17,7 +19,7 @@ impl Parser<'_> {
     /// A condition with two arms, or a comparison.
     #[cycle(descent)]
     #[tactic(auto, using(crate::proofs::LevelEquations::expression_is))]
-    fn expression(&mut self) -> Result<Expr, Stop>
+    fn expression(&mut self) -> Result<Expr, NoTree>
         ensures read { Gives result self.new.tokens.now (d.parsed expression self.old.tokens.now) }
         ensures shorter { OnOk result (length self.new.tokens.now < length self.old.tokens.now) }
     {
@@ -27,7 +29,7 @@ impl Parser<'_> {
         }
         let first = self.expression()?;
         if !self.skip(Sign::Colon) {
-            return Err(Stop::Syntax);
+            return Err(NoTree::Syntax);
         }
         let second = self.expression()?;
         Ok(Expr::conditional(self.alloc, condition, first, second)?)
@@ -36,7 +38,7 @@ impl Parser<'_> {
     /// Two sums compared, or a sum.
     #[cycle(descent)]
     #[tactic(auto, using(crate::proofs::LevelEquations::comparison_is))]
-    fn comparison(&mut self) -> Result<Expr, Stop>
+    fn comparison(&mut self) -> Result<Expr, NoTree>
         ensures read { Gives result self.new.tokens.now (d.parsed comparison self.old.tokens.now) }
         ensures shorter { OnOk result (length self.new.tokens.now < length self.old.tokens.now) }
     {
@@ -53,7 +55,7 @@ impl Parser<'_> {
     /// Terms with `+` and `-` between them.
     #[cycle(descent)]
     #[tactic(auto, using(crate::proofs::LevelEquations::sum_is, crate::proofs::LevelEquations::operands_is))]
-    fn sum(&mut self) -> Result<Expr, Stop>
+    fn sum(&mut self) -> Result<Expr, NoTree>
         ensures read { Gives result self.new.tokens.now (d.parsed sum self.old.tokens.now) }
         ensures shorter { OnOk result (length self.new.tokens.now < length self.old.tokens.now) }
     {
@@ -68,7 +70,7 @@ impl Parser<'_> {
     /// Operands with `*`, `/` and `%` between them.
     #[cycle(descent)]
     #[tactic(auto, using(crate::proofs::LevelEquations::term_is, crate::proofs::LevelEquations::operands_is))]
-    fn term(&mut self) -> Result<Expr, Stop>
+    fn term(&mut self) -> Result<Expr, NoTree>
         ensures read { Gives result self.new.tokens.now (d.parsed term self.old.tokens.now) }
         ensures shorter { OnOk result (length self.new.tokens.now < length self.old.tokens.now) }
     {
@@ -83,7 +85,7 @@ impl Parser<'_> {
     /// A minus and its operand, or a power.
     #[cycle(descent)]
     #[tactic(auto, using(crate::proofs::LevelEquations::unary_is))]
-    fn unary(&mut self) -> Result<Expr, Stop>
+    fn unary(&mut self) -> Result<Expr, NoTree>
         ensures read { Gives result self.new.tokens.now (d.parsed unary self.old.tokens.now) }
         ensures shorter { OnOk result (length self.new.tokens.now < length self.old.tokens.now) }
     {
@@ -97,7 +99,7 @@ impl Parser<'_> {
     /// A base with its exponents.
     #[cycle(descent)]
     #[tactic(auto, using(crate::proofs::LevelEquations::powers_is))]
-    fn power(&mut self) -> Result<Expr, Stop>
+    fn power(&mut self) -> Result<Expr, NoTree>
         ensures read { Gives result self.new.tokens.now (d.parsed powers self.old.tokens.now) }
         ensures shorter { OnOk result (length self.new.tokens.now < length self.old.tokens.now) }
     {
@@ -107,7 +109,7 @@ impl Parser<'_> {
 
     /// The powers of the base: further exponents behind it, from the left.
     #[tactic(auto, using(crate::proofs::LevelEquations::exponents_is))]
-    fn exponents(&mut self, base: Expr) -> Result<Expr, Stop>
+    fn exponents(&mut self, base: Expr) -> Result<Expr, NoTree>
         ensures read { Gives result self.new.tokens.now (d.parsed_exponents base self.old.tokens.now) }
         ensures shorter { OnOk result (length self.new.tokens.now ≤ length self.old.tokens.now) }
     {
@@ -122,12 +124,12 @@ impl Parser<'_> {
     /// What stands without an operation round it.
     #[cycle(descent)]
     #[tactic(auto, using(crate::proofs::LevelEquations::primary_is))]
-    fn primary(&mut self) -> Result<Expr, Stop>
+    fn primary(&mut self) -> Result<Expr, NoTree>
         ensures read { Gives result self.new.tokens.now (d.parsed primary self.old.tokens.now) }
         ensures shorter { OnOk result (length self.new.tokens.now < length self.old.tokens.now) }
     {
         match self.advance() {
-            None => Err(Stop::Syntax),
+            None => Err(NoTree::Syntax),
             Some(Token::Numeral(amount, _)) => self.numeral(*amount),
             Some(Token::Unit(name)) => Ok(Expr {
                 node: Node::UnitOne(name.copy(self.alloc)?),
@@ -150,13 +152,13 @@ impl Parser<'_> {
                 owner: Owner::Here,
                 slot: self.slot()?,
             })),
-            Some(Token::Sign(_)) => Err(Stop::Syntax),
+            Some(Token::Sign(_)) => Err(NoTree::Syntax),
         }
     }
 
     /// An expression and a closing bracket.
     #[cycle(descent)]
-    fn bracketed(&mut self) -> Result<Expr, Stop>
+    fn bracketed(&mut self) -> Result<Expr, NoTree>
         ensures read { Gives result self.new.tokens.now (d.with_bracket (d.parsed expression self.old.tokens.now)) }
         ensures shorter { OnOk result (length self.new.tokens.now < length self.old.tokens.now) }
     {
@@ -164,42 +166,42 @@ impl Parser<'_> {
         if self.skip(Sign::Close) {
             Ok(tree)
         } else {
-            Err(Stop::Syntax)
+            Err(NoTree::Syntax)
         }
     }
 
     /// The call of a function, behind its name.
     #[cycle(descent)]
-    fn call(&mut self, name: &Name) -> Result<Expr, Stop>
+    fn call(&mut self, name: &Name) -> Result<Expr, NoTree>
         ensures read { Gives result self.new.tokens.now
             (d.call d.whole_readers name.now (d.behind_sign sign.Open self.old.tokens.now)) }
         ensures shorter { OnOk result (length self.new.tokens.now < length self.old.tokens.now) }
     {
         if !self.skip(Sign::Open) {
-            return Err(Stop::Syntax);
+            return Err(NoTree::Syntax);
         }
-        if let Some(op) = function_named(name.as_str()) {
+        if let Some(op) = FunctionOp::named(name.as_str()) {
             let operand = self.bracketed()?;
             return Ok(Expr::function(self.alloc, op, operand)?);
         }
         if name.as_str() == "mod" {
             return self.modulo();
         }
-        match aggregate_named(name.as_str()) {
+        match AggregateOp::named(name.as_str()) {
             Some(op) => self.aggregate(op),
-            None => Err(Stop::Syntax),
+            None => Err(NoTree::Syntax),
         }
     }
 
     /// The two arguments of a remainder, and a closing bracket.
     #[cycle(descent)]
-    fn modulo(&mut self) -> Result<Expr, Stop>
+    fn modulo(&mut self) -> Result<Expr, NoTree>
         ensures read { Gives result self.new.tokens.now (modulo_in_front self.old.tokens.now) }
         ensures shorter { OnOk result (length self.new.tokens.now < length self.old.tokens.now) }
     {
         let left = self.expression()?;
         if !self.skip_separator() {
-            return Err(Stop::Syntax);
+            return Err(NoTree::Syntax);
         }
         let right = self.bracketed()?;
         Ok(Expr::modulo(self.alloc, left, right)?)
@@ -207,7 +209,7 @@ impl Parser<'_> {
 
     /// The arguments of a function of many numbers, and a closing bracket.
     #[cycle(descent)]
-    fn aggregate(&mut self, op: AggregateOp) -> Result<Expr, Stop>
+    fn aggregate(&mut self, op: AggregateOp) -> Result<Expr, NoTree>
         ensures read { Gives result self.new.tokens.now (aggregate_in_front op self.old.tokens.now) }
         ensures shorter { OnOk result (length self.new.tokens.now < length self.old.tokens.now) }
     {
@@ -215,14 +217,14 @@ impl Parser<'_> {
         if self.skip(Sign::Close) {
             Ok(Expr::aggregate(op, all))
         } else {
-            Err(Stop::Syntax)
+            Err(NoTree::Syntax)
         }
     }
 
     /// Arguments with `;` or `,` between them, one at least.
     #[cycle(descent)]
     #[tactic(auto, using(crate::proofs::ArgumentLemmas::argument_none))]
-    fn arguments(&mut self) -> Result<Vec<Argument>, Stop>
+    fn arguments(&mut self) -> Result<Vec<Argument>, NoTree>
         ensures read { GivesBy (λ all. arguments_of all.items) result self.new.tokens.now (d.parsed_arguments self.old.tokens.now) }
         ensures shorter { OnOk result (length self.new.tokens.now < length self.old.tokens.now) }
     {
@@ -238,7 +240,7 @@ impl Parser<'_> {
 
     /// An area, or else an expression.
     #[cycle(descent)]
-    fn argument(&mut self) -> Result<Argument, Stop>
+    fn argument(&mut self) -> Result<Argument, NoTree>
         ensures read { Gives result self.new.tokens.now (argument_in_front self.old.tokens.now) }
         ensures shorter { OnOk result (length self.new.tokens.now < length self.old.tokens.now) }
     {
@@ -250,13 +252,13 @@ impl Parser<'_> {
 }
 
 /// Reads the expression that the tokens are, all of them. Syntax comes exactly where they are none.
-pub(crate) fn tree(alloc: Global, tokens: &[Token]) -> Result<Expr, Stop>
+pub(crate) fn tree(alloc: Global, tokens: &[Token]) -> Result<Expr, NoTree>
     ensures { GivesWhole result tokens.now }
 {
     let mut parser = Parser { alloc, tokens };
     let tree = parser.expression()?;
     match parser.tokens {
         [] => Ok(tree),
-        _ => Err(Stop::Syntax),
+        _ => Err(NoTree::Syntax),
     }
 }

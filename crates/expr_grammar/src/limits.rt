@@ -1,9 +1,9 @@
 ghost use Rattle.std.specs.Prelude.{◌≡◌, IfOk};
 ghost use Rattle.expr_grammar.specs.Large.{is_too_large};
 
-use crate::expr::Expr;
 use crate::printing::print;
 use expr_tokens::{LexFault, excess, lexemes};
+use expr_tree::Expr;
 use std::alloc::{AllocError, Global};
 
 /// Whether the printed form of an expression has more than 512 tokens, or more than 32 round

@@ -6,10 +6,9 @@ ghost use Rattle.expr_grammar.specs.Grammar as level;
 ghost use Rattle.expr_grammar.specs.Reading.{Gives, Finds, Passes, Advances};
 ghost use Rattle.expr_tokens.specs.declared.sign.Sign.TheVariants as sign;
 
-use crate::expr::{Expr, Node, UnitPower};
-use crate::operators::{BinaryOp, CompareOp};
-use crate::stop::Stop;
+use crate::no_tree::NoTree;
 use expr_tokens::{Sign, Token};
+use expr_tree::{BinaryOp, CompareOp, Expr, Node, UnitPower};
 use fc_base::{Address, Area, Label, LabelFault, Name, TextValue};
 use object_paths::{Owner, Path};
 use quantities::Amount;
@@ -54,14 +53,14 @@ fn product_of(sign: Sign) -> Option<BinaryOp>
 }
 
 /// The text as a label.
-fn label(alloc: Global, text: &TextValue) -> Result<Label, Stop>
+fn label(alloc: Global, text: &TextValue) -> Result<Label, NoTree>
     ensures found { IfOk result (λ label. (label ≡ text.now) × IsTrue (is_label text.now)) }
-    ensures refused { IsErrOf result Stop.Syntax ↔ (is_label text.now ≡ false) }
+    ensures refused { IsErrOf result NoTree.Syntax ↔ (is_label text.now ≡ false) }
 {
     match Label::read(alloc, text.as_str()) {
         Ok(label) => Ok(label),
-        Err(LabelFault::BadLabel) => Err(Stop::Syntax),
-        Err(LabelFault::Memory(error)) => Err(Stop::Memory(error)),
+        Err(LabelFault::BadLabel) => Err(NoTree::Syntax),
+        Err(LabelFault::Memory(error)) => Err(NoTree::Memory(error)),
     }
 }
 
@@ -183,30 +182,30 @@ impl<'a> Parser<'a> {
     }
 
     /// Goes past a name.
-    pub(crate) fn name(&mut self) -> Result<Name, Stop>
+    pub(crate) fn name(&mut self) -> Result<Name, NoTree>
         ensures read { Gives result self.new.tokens.now (d.name_in_front self.old.tokens.now) }
         ensures shorter { OnOk result (length self.new.tokens.now < length self.old.tokens.now) }
     {
         match self.advance() {
             Some(Token::Name(name)) => Ok(name.copy(self.alloc)?),
-            _ => Err(Stop::Syntax),
+            _ => Err(NoTree::Syntax),
         }
     }
 
     /// The number that one or two digits write.
-    pub(crate) fn digits(&mut self) -> Result<u8, Stop>
+    pub(crate) fn digits(&mut self) -> Result<u8, NoTree>
         ensures read { Gives result self.new.tokens.now (d.digits_in_front self.old.tokens.now) }
         ensures shorter { OnOk result (length self.new.tokens.now < length self.old.tokens.now) }
     {
         match self.advance() {
             Some(Token::Numeral(_, Some(number))) if *number < 100 => Ok(*number),
-            _ => Err(Stop::Syntax),
+            _ => Err(NoTree::Syntax),
         }
     }
 
     #[tactic(auto, unfolding(crate::specs::Descent::exponent_in_front))]
     /// An exponent: one or two digits, and a minus or none.
-    pub(crate) fn exponent(&mut self) -> Result<i8, Stop>
+    pub(crate) fn exponent(&mut self) -> Result<i8, NoTree>
         ensures read { Gives result self.new.tokens.now (d.exponent_in_front self.old.tokens.now) }
         ensures shorter { OnOk result (length self.new.tokens.now < length self.old.tokens.now) }
     {
@@ -219,7 +218,7 @@ impl<'a> Parser<'a> {
     }
 
     /// A number, with the unit behind it or none.
-    pub(crate) fn numeral(&mut self, amount: Amount) -> Result<Expr, Stop>
+    pub(crate) fn numeral(&mut self, amount: Amount) -> Result<Expr, NoTree>
         ensures read { Gives result self.new.tokens.now (d.numeral_behind amount self.old.tokens.now) }
         ensures shorter { OnOk result (length self.new.tokens.now ≤ length self.old.tokens.now) }
     {
@@ -236,7 +235,7 @@ impl<'a> Parser<'a> {
     }
 
     /// A number with the unit, which may have an exponent behind it.
-    fn measure(&mut self, amount: Amount, unit: Name) -> Result<Expr, Stop>
+    fn measure(&mut self, amount: Amount, unit: Name) -> Result<Expr, NoTree>
         ensures read { Gives result self.new.tokens.now
             (d.measured amount unit (d.behind_sign sign.Caret self.old.tokens.now) self.old.tokens.now) }
         ensures shorter { OnOk result (length self.new.tokens.now ≤ length self.old.tokens.now) }
@@ -252,7 +251,7 @@ impl<'a> Parser<'a> {
     }
 
     /// A text; or with a point behind it a label, and the slot of its object.
-    pub(crate) fn text_or_label(&mut self, text: &TextValue) -> Result<Expr, Stop>
+    pub(crate) fn text_or_label(&mut self, text: &TextValue) -> Result<Expr, NoTree>
         ensures read { Gives result self.new.tokens.now
             (d.text_or_label text.now (d.behind_sign sign.Dot self.old.tokens.now) self.old.tokens.now) }
         ensures shorter { OnOk result (length self.new.tokens.now ≤ length self.old.tokens.now) }

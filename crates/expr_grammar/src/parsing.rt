@@ -1,15 +1,16 @@
 ghost use Rattle.std.specs.Prelude.{◌≡◌, ◌≤◌, IfOk};
-ghost use Rattle.expr_grammar.specs.Parse.{expression_of, MeetsGrammar, MeetsLimits, MeetsParse, Tells};
+ghost use Rattle.expr_grammar.specs.Parse.{expression_in, MeetsGrammar, MeetsLimits, MeetsParse, Tells};
 ghost use Rattle.expr_tokens.specs.Kinds.{tokens_of};
-ghost use Rattle.expr_grammar.specs.References.{reference_count};
-ghost use Rattle.expr_grammar.specs.Spelled.{IsSpelled};
+ghost use Rattle.expr_tokens.specs.Limits.{most_tokens};
+ghost use Rattle.expr_tree.specs.References.{reference_count};
+ghost use Rattle.expr_tree.specs.Spelled.{IsSpelled};
 ghost use Rattle.expr_grammar.specs.declared.fault.ParseFault.TheVariants as answer;
 
 use crate::descent::tree;
-use crate::expr::Expr;
 use crate::fault::{ExprCause, ExprFault, ParseFault};
-use crate::stop::Stop;
+use crate::no_tree::NoTree;
 use expr_tokens::{LexFault, Placed, Token, excess, first_misplaced, lexemes, tokens};
+use expr_tree::Expr;
 use std::alloc::Global;
 
 /// The fault of that cause at the place.
@@ -46,8 +47,8 @@ pub(crate) fn tree_of(
 {
     match tree(alloc, tokens) {
         Ok(tree) => Ok(tree),
-        Err(Stop::Syntax) => Err(fault(ExprCause::Syntax, first_misplaced(lexemes, tokens, end))),
-        Err(Stop::Memory(error)) => Err(ParseFault::Memory(error)),
+        Err(NoTree::Syntax) => Err(fault(ExprCause::Syntax, first_misplaced(lexemes, tokens, end))),
+        Err(NoTree::Memory(error)) => Err(ParseFault::Memory(error)),
     }
 }
 
@@ -58,9 +59,9 @@ pub(crate) fn tree_of(
 /// this order. Identifiers are XID words (Unicode Standard Annex 31).
 pub fn parse(alloc: Global, text: &str) -> Result<Expr, ParseFault>
     ensures exact { MeetsParse text.now result }
-    ensures found { Tells (expression_of text.now) result }
+    ensures found { Tells (expression_in text.now) result }
     ensures spelled { IfOk result IsSpelled }
-    ensures references { IfOk result (λ e. reference_count e ≤ 512) }
+    ensures references { IfOk result (λ e. reference_count e ≤ most_tokens) }
 {
     let lexemes = lexemes_within_limits(alloc, text)?;
     let tokens = tokens(alloc, &lexemes).map_err(ParseFault::Memory)?;

@@ -4,8 +4,8 @@ ghost use Rattle.expr_grammar.specs.Reading.{Gives};
 ghost use Rattle.expr_tokens.specs.declared.sign.Sign.TheVariants as sign;
 ghost use Rattle.object_paths.specs.PathParts.{component_of};
 
+use crate::no_tree::NoTree;
 use crate::parser::Parser;
-use crate::stop::Stop;
 use expr_tokens::{Sign, Token};
 use fc_base::Name;
 use object_paths::{Component, Owner, Path, SlotName};
@@ -28,31 +28,31 @@ fn component(group: &Name, part: &Name) -> Option<Component>
 
 impl Parser<'_> {
     /// The last name of a component of the group.
-    fn component_part(&mut self, group: &Name) -> Result<Component, Stop>
+    fn component_part(&mut self, group: &Name) -> Result<Component, NoTree>
         ensures read { Gives result self.new.tokens.now (d.part_of group.now (d.name_in_front self.old.tokens.now)) }
         ensures shorter { OnOk result (length self.new.tokens.now < length self.old.tokens.now) }
     {
         let part = self.name()?;
         match component(group, &part) {
             Some(component) => Ok(component),
-            None => Err(Stop::Syntax),
+            None => Err(NoTree::Syntax),
         }
     }
 
     /// A component of the placement that is named in front of the point.
-    fn component(&mut self) -> Result<Component, Stop>
+    fn component(&mut self) -> Result<Component, NoTree>
         ensures read { Gives result self.new.tokens.now (d.component_of_group (d.name_in_front self.old.tokens.now)) }
         ensures shorter { OnOk result (length self.new.tokens.now < length self.old.tokens.now) }
     {
         let group = self.name()?;
         if !self.skip(Sign::Dot) {
-            return Err(Stop::Syntax);
+            return Err(NoTree::Syntax);
         }
         self.component_part(&group)
     }
 
     /// A slot of the object whose point stands in front.
-    pub(crate) fn slot(&mut self) -> Result<SlotName, Stop>
+    pub(crate) fn slot(&mut self) -> Result<SlotName, NoTree>
         ensures read { Gives result self.new.tokens.now (d.slot_in_front self.old.tokens.now) }
         ensures shorter { OnOk result (length self.new.tokens.now < length self.old.tokens.now) }
     {
@@ -62,12 +62,12 @@ impl Parser<'_> {
                 let name = name.copy(self.alloc)?;
                 self.slot_named(name)
             }
-            _ => Err(Stop::Syntax),
+            _ => Err(NoTree::Syntax),
         }
     }
 
     /// A slot whose first name stands in front.
-    fn slot_named(&mut self, name: Name) -> Result<SlotName, Stop>
+    fn slot_named(&mut self, name: Name) -> Result<SlotName, NoTree>
         ensures read { Gives result self.new.tokens.now
             (d.slot_behind_name name (d.behind_sign sign.Dot self.old.tokens.now) self.old.tokens.now) }
         ensures shorter { OnOk result (length self.new.tokens.now ≤ length self.old.tokens.now) }
@@ -80,7 +80,7 @@ impl Parser<'_> {
     }
 
     /// A path that begins with the name in front.
-    pub(crate) fn path(&mut self, first: Name) -> Result<Path, Stop>
+    pub(crate) fn path(&mut self, first: Name) -> Result<Path, NoTree>
         ensures read { Gives result self.new.tokens.now
             (d.named_path first (d.behind_sign sign.Dot self.old.tokens.now) self.old.tokens.now) }
         ensures shorter { OnOk result (length self.new.tokens.now ≤ length self.old.tokens.now) }
@@ -95,7 +95,7 @@ impl Parser<'_> {
     }
 
     /// What follows the first name of a path and a point.
-    fn behind_owner(&mut self, first: Name) -> Result<Path, Stop>
+    fn behind_owner(&mut self, first: Name) -> Result<Path, NoTree>
         ensures read { Gives result self.new.tokens.now (d.behind_owner first self.old.tokens.now) }
         ensures shorter { OnOk result (length self.new.tokens.now < length self.old.tokens.now) }
     {
@@ -108,12 +108,12 @@ impl Parser<'_> {
                 let second = second.copy(self.alloc)?;
                 self.behind_second(first, second)
             }
-            _ => Err(Stop::Syntax),
+            _ => Err(NoTree::Syntax),
         }
     }
 
     /// What follows the first two names of a path.
-    fn behind_second(&mut self, first: Name, second: Name) -> Result<Path, Stop>
+    fn behind_second(&mut self, first: Name, second: Name) -> Result<Path, NoTree>
         ensures read { Gives result self.new.tokens.now
             (d.behind_second_name first second (d.behind_sign sign.Dot self.old.tokens.now) self.old.tokens.now) }
         ensures shorter { OnOk result (length self.new.tokens.now ≤ length self.old.tokens.now) }
@@ -130,7 +130,7 @@ impl Parser<'_> {
 
     /// What follows the first three names of a path: they are a component of the object itself, or
     /// with a fourth one that of an owner.
-    fn behind_third(&mut self, first: Name, second: Name, third: Name) -> Result<Path, Stop>
+    fn behind_third(&mut self, first: Name, second: Name, third: Name) -> Result<Path, NoTree>
         ensures read { Gives result self.new.tokens.now
             (d.behind_third_name first second third (d.behind_sign sign.Dot self.old.tokens.now) self.old.tokens.now) }
         ensures shorter { OnOk result (length self.new.tokens.now ≤ length self.old.tokens.now) }
@@ -147,7 +147,7 @@ impl Parser<'_> {
                 owner: Owner::Here,
                 slot: SlotName::Component(first, part),
             }),
-            None => Err(Stop::Syntax),
+            None => Err(NoTree::Syntax),
         }
     }
 }

@@ -2,21 +2,18 @@ ghost use Rattle.std.specs.Prelude.{◌≡◌, ◌++◌, List, IfOk, OnOk, codes
 ghost use Rattle.fc_base.specs.Places.{address_text};
 ghost use Rattle.quantities.specs.Texts.{decimal_text};
 ghost use Rattle.object_paths.specs.PathTexts.{path_text};
-ghost use Rattle.expr_tokens.specs.Functions.{function_name, aggregate_name};
 ghost use Rattle.expr_grammar.specs.Grammar.{binary_sign, compare_sign};
 ghost use Rattle.expr_grammar.specs.Printed.{exponent_text, measure_text, area_text, bracketed, spaced, printed, printed_arguments};
-ghost use Rattle.expr_grammar.specs.Levels.{arguments_of};
+ghost use Rattle.expr_tree.specs.NodesAsTrees.{arguments_of};
 ghost use Rattle.expr_grammar.specs.Parse.{IsLexed, Parses};
 ghost use Rattle.expr_tokens.specs.Signs.{sign_text};
-ghost use Rattle.expr_grammar.specs.Spelled.{IsSpelled};
-ghost use Rattle.expr_grammar.specs.Tree.{binary, compare, conditional, function, modulo};
+ghost use Rattle.expr_tree.specs.Spelled.{IsSpelled};
+ghost use Rattle.expr_tree.specs.Tree.{binary, compare, conditional, function, modulo};
 ghost use Rattle.expr_tokens.specs.declared.token.Placed.{Placed};
 
-use crate::expr::{Argument, Expr, Node, UnitPower};
-use crate::operators::{BinaryOp, CompareOp};
 use crate::tightness::{Tightness, fits, fits_as_base, level_of_operation, level_of_right};
 use arrayvec::ArrayString;
-use expr_tokens::{AggregateOp, FunctionOp};
+use expr_tree::{Argument, BinaryOp, CompareOp, Expr, FunctionOp, Node, UnitPower};
 use fc_base::{Address, Area, TextValue};
 use object_paths::Path;
 use quantities::Amount;
@@ -46,32 +43,6 @@ fn comparison_text(op: CompareOp) -> &'static str
         CompareOp::LessOrEqual => "<=",
         CompareOp::Greater => ">",
         CompareOp::GreaterOrEqual => ">=",
-    }
-}
-
-/// The name of a function of one number.
-fn function_text(op: FunctionOp) -> &'static str
-    ensures { result.now ≡ function_name op }
-{
-    match op {
-        FunctionOp::Abs => "abs",
-        FunctionOp::Ceil => "ceil",
-        FunctionOp::Floor => "floor",
-        FunctionOp::Round => "round",
-        FunctionOp::Trunc => "trunc",
-    }
-}
-
-/// The name of a function of many numbers.
-fn aggregate_text(op: AggregateOp) -> &'static str
-    ensures { result.now ≡ aggregate_name op }
-{
-    match op {
-        AggregateOp::Sum => "sum",
-        AggregateOp::Average => "average",
-        AggregateOp::Count => "count",
-        AggregateOp::Min => "min",
-        AggregateOp::Max => "max",
     }
 }
 
@@ -197,7 +168,7 @@ fn push_function(
 ) -> Result<(), AllocError>
     ensures { OnOk result (string_bytes out.new ≡ string_bytes out.old ++ printed (function op operand.now)) }
 {
-    out.push_str(function_text(op))?;
+    out.push_str(op.name())?;
     push_in_place(alloc, false, operand, out)
 }
 
@@ -300,7 +271,7 @@ fn push_tree(alloc: Global, tree: &Expr, out: &mut String) -> Result<(), AllocEr
         Node::Function(op, operand) => push_function(alloc, *op, operand, out),
         Node::Modulo(left, right) => push_modulo(alloc, left, right, out),
         Node::Aggregate(op, all) => {
-            out.push_str(aggregate_text(*op))?;
+            out.push_str(op.name())?;
             out.push_str("(")?;
             push_arguments(alloc, all.as_slice(), out)?;
             out.push_str(")")

@@ -1,10 +1,10 @@
+//! The precedence of the operators in a printed form: where brackets are needed.
 ghost use Rattle.std.specs.Prelude.{◌≡◌};
 ghost use Rattle.expr_grammar.specs.Grammar.{binary_level, right_level};
 ghost use Rattle.expr_grammar.specs.Printed.{tightness, level_of, fits, fits_as_base};
 ghost use Rattle.expr_grammar.specs.PrintingLevels.{level};
 
-use crate::expr::{Expr, Node};
-use crate::operators::BinaryOp;
+use expr_tree::{BinaryOp, Expr, Node};
 
 /// How tightly a form holds its parts together: the levels of the grammar, the loosest first.
 #[derive(Clone, Copy)]

@@ -3,7 +3,6 @@ pub mod Longest
 pub mod Lexemes
 pub mod NumeralParts
 pub mod Lexing
-pub mod Functions
 pub mod Kinds
 pub mod Limits
 pub mod Misplaced

@@ -1,6 +1,6 @@
 -- Where a list of tokens that is no expression goes wrong: found by neighbouring tokens alone.
 use Rattle.std.specs.Prelude.{ℕ, Bool, true, false, not, ◌&&◌, ◌||◌, ◌==◌, if◌then◌else◌, List, [], ◌∷◌, Option, None, Some}
-use Rattle.expr_tokens.specs.Functions.{is_function_name}
+use Rattle.expr_tree.specs.Functions.{is_function_name}
 use Rattle.expr_tokens.specs.Limits.{open_behind_sign}
 use Rattle.expr_tokens.specs.declared.sign.Sign as s
 use Rattle.expr_tokens.specs.declared.sign.Sign.TheVariants as sign

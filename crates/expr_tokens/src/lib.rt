@@ -2,7 +2,6 @@
 #![tactic(auto)]
 
 mod first_reference;
-mod functions;
 mod kinds;
 mod lexing;
 mod limits;
@@ -11,7 +10,6 @@ mod sign;
 mod token;
 
 pub use first_reference::place_of_reference;
-pub use functions::{AggregateOp, FunctionOp, aggregate_named, function_named};
 pub use kinds::tokens;
 pub use lexing::{LexFault, lexemes};
 pub use limits::excess;

@@ -1,9 +1,9 @@
 ghost use Rattle.std.specs.Prelude.{◌≡◌, ◌≤◌, ◌<◌, ◌^◌, map, option_copied};
 ghost use Rattle.expr_tokens.specs.Misplaced.{behind_operand, closes_by_sign, closes_nothing, is_closing, is_minus_or_point, is_misplaced, is_opening, is_unit_of, is_unknown_function, misplaced, open_behind_token, opens_by_sign, wants_operand, wants_operand_by_sign};
 
-use crate::functions::is_function_name;
 use crate::sign::Sign;
 use crate::token::{Placed, Token};
+use expr_tree::is_function_name;
 
 /// Whether the token may begin an operand.
 fn is_opening(token: &Token) -> bool

@@ -39,7 +39,7 @@ pub struct Session {
 
 impl Model for Session {
     ghost use Rattle.std.specs.Coded.{codes};
-    ghost use Rattle.expr_grammar.specs.contracts.expr.Expr as e;
+    ghost use Rattle.expr_tree.specs.contracts.expr.Expr as e;
     ghost use Rattle.fcdoc_core.specs.Machine.{State};
 
     ghost Value = { State };

@@ -6,8 +6,8 @@ use Rattle.std.specs.Option.{option_and_then, option_map_or}
 use Rattle.std.proofs.lemmas.List.Sums.{sum_by-cons}
 use Rattle.fc_base.specs.Graph.{IsIn, IsOrdered}
 use Rattle.fc_base.proofs.GraphLemmas.{AllDifferent}
-use Rattle.expr_grammar.specs.Nodes.{node_count}
-use Rattle.expr_grammar.specs.Tree.{Tree}
+use Rattle.expr_tree.specs.Nodes.{node_count}
+use Rattle.expr_tree.specs.Tree.{Tree}
 use Rattle.object_paths.specs.Slots.{Slot, same_slot}
 use Rattle.document_model.specs.Counts.{expressions, nodes_of_document}
 use Rattle.document_model.specs.Dependencies.{deps}

@@ -10,8 +10,8 @@ use Rattle.property_types.specs.declared.prop_type.PropType.TheVariants.{Placeme
 use Rattle.property_types.specs.declared.value.Value.{Value}
 use Rattle.property_types.specs.declared.value.ValueFault.TheVariants.{Range}
 use Rattle.property_types.specs.Values.{Outcome}
-use Rattle.expr_grammar.specs.References.{Reference, references}
-use Rattle.expr_grammar.specs.Tree.{Tree}
+use Rattle.expr_tree.specs.References.{Reference, references}
+use Rattle.expr_tree.specs.Tree.{Tree}
 use Rattle.expr_eval.specs.Outcomes.{Reading, outcome_of}
 use Rattle.document_model.specs.Dependencies.{slot_reached}
 use Rattle.document_model.specs.Document.{Object, object_named}

@@ -14,7 +14,7 @@ use Rattle.property_types.specs.declared.value.Value.{Value}
 use Rattle.property_types.specs.declared.value.ValueFault.TheVariants.{Range}
 use Rattle.property_types.specs.Values.{Outcome}
 use Rattle.expr_eval.specs.Outcomes.{outcome_of}
-use Rattle.expr_grammar.specs.Tree.{Tree}
+use Rattle.expr_tree.specs.Tree.{Tree}
 use Rattle.document_model.specs.declared.content.Content.{Content}
 use Rattle.document_model.specs.Document.{Document, Object, Property, object_named}
 use Rattle.document_model.specs.Slots.{Rule, own, bound, Row, rows, rows_by, rows_in_order, dynamic_rows, row_in, row_of, type_of, rule_of}

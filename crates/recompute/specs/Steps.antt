@@ -1,7 +1,7 @@
 -- How much there is to evaluate at the slots of numbers.
 use Rattle.std.specs.Prelude.{ℕ, Option, Some, None}
-use Rattle.expr_grammar.specs.Nodes.{node_count}
-use Rattle.expr_grammar.specs.Tree.{Tree}
+use Rattle.expr_tree.specs.Nodes.{node_count}
+use Rattle.expr_tree.specs.Tree.{Tree}
 use Rattle.doc_tables.specs.Accessors.{tree_at}
 use Rattle.doc_tables.specs.Numbered.{Numbered}
 

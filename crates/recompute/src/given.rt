@@ -1,6 +1,6 @@
 ghost use Rattle.std.specs.Prelude.{◌≡◌, ◌+◌, ◌-◌, ◌<◌, ◌≤◌, ◌^◌, IfOk, IsSome, OnOk, Some, min};
-ghost use Rattle.expr_grammar.specs.Nodes.{node_count};
-ghost use Rattle.expr_grammar.specs.References.{reference_count};
+ghost use Rattle.expr_tree.specs.Nodes.{node_count};
+ghost use Rattle.expr_tree.specs.References.{reference_count};
 ghost use Rattle.doc_tables.specs.Accessors.{tree_at};
 ghost use Rattle.doc_tables.specs.Numbered.{slot_at};
 ghost use Rattle.recompute.specs.Kept.{IsGiven};
@@ -10,7 +10,7 @@ use crate::behind::Behind;
 use crate::fitting::fitted;
 use doc_tables::Tables;
 use expr_eval::evaluate;
-use expr_grammar::Expr;
+use expr_tree::Expr;
 use fc_base::{SlotId, Steps};
 use property_types::{Outcome, ValueFault};
 use std::alloc::{AllocError, Global};

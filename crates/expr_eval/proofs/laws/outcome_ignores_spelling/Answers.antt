@@ -1,7 +1,7 @@
 use Rattle.std.proofs.Common.{◌≡◌, subst}
 use Rattle.property_types.specs.declared.value.ValueFault.TheVariants.{OutOfType}
-use Rattle.expr_grammar.specs.Tree.{Tree}
-use Rattle.expr_grammar.proofs.NumberedLemmas.{with_numbered-const}
+use Rattle.expr_tree.specs.Tree.{Tree}
+use Rattle.expr_tree.proofs.NumberedLemmas.{with_numbered-const}
 use Rattle.expr_eval.specs.Outcomes.{outcome_of}
 use Rattle.expr_eval.proofs.SpellingLemmas.{outcome-numbered}
 use Rattle.expr_eval.proofs.laws.outcome_ignores_spelling.Goals as goal

@@ -1,6 +1,6 @@
 use Rattle.std.proofs.Common.{◌≡◌, subst}
-use Rattle.expr_grammar.specs.Tree.{Tree}
-use Rattle.expr_grammar.proofs.NumberedLemmas.{with_numbered-const}
+use Rattle.expr_tree.specs.Tree.{Tree}
+use Rattle.expr_tree.proofs.NumberedLemmas.{with_numbered-const}
 use Rattle.expr_eval.specs.Sorts.{sort_of}
 use Rattle.expr_eval.proofs.SpellingLemmas.{sort-numbered}
 use Rattle.expr_eval.proofs.laws.sort_ignores_spelling.Goals as goal

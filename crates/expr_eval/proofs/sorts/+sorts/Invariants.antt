@@ -1,7 +1,7 @@
 use Rattle.std.proofs.Common.{◌≡◌, ◌+◌, ◌*◌, ◌≤◌, ◌++◌, drop}
-use Rattle.expr_grammar.specs.Nodes.{node_count, argument_nodes}
-use Rattle.expr_grammar.specs.References.{argument_reference_count}
-use Rattle.expr_grammar.specs.Levels.{arguments_of}
+use Rattle.expr_tree.specs.Nodes.{node_count, argument_nodes}
+use Rattle.expr_tree.specs.References.{argument_reference_count}
+use Rattle.expr_tree.specs.NodesAsTrees.{arguments_of}
 use Rattle.expr_eval.specs.Sorts.{item_sorts}
 use Rattle.expr_eval.proofs.sorts.+sorts.Given as goal
 

@@ -6,10 +6,10 @@ use Rattle.expr_tokens.specs.Kinds.{tokens_of}
 use Rattle.expr_grammar.specs.declared.fault.ExprFault.{ExprFault}
 use Rattle.expr_grammar.specs.declared.fault.ParseFault.{ParseFault}
 use Rattle.expr_grammar.specs.Grammar.{HasTree, expression}
-use Rattle.expr_grammar.specs.Parse.{IsLexed, MeetsGrammar, MeetsParse, closed_expression_of, Tells}
-use Rattle.expr_grammar.specs.References.{reference_count}
-use Rattle.expr_grammar.specs.Spelled.{IsSpelled}
-use Rattle.expr_grammar.specs.Tree.{Tree}
+use Rattle.expr_grammar.specs.Parse.{IsLexed, MeetsGrammar, MeetsParse, closed_expression_in, Tells}
+use Rattle.expr_tree.specs.References.{reference_count}
+use Rattle.expr_tree.specs.Spelled.{IsSpelled}
+use Rattle.expr_tree.specs.Tree.{Tree}
 use Rattle.expr_grammar.proofs.ClosedLemmas.{closed_has_no_references}
 use Rattle.expr_grammar.proofs.ExpressionLemmas.{IsClosed, meets, closed-error, closed-found, closed_is}
 use Rattle.expr_grammar.proofs.ReferenceLimit.{parsed_references}
@@ -38,15 +38,15 @@ returns-clause-found c =
     (sym (closed-found c.args.text.now c.in_ok-lexemes.lexemes.items c.in_ok-tokens.tokens.items c.in_ok-tree.tree c.place_of_reference.result h same tree at))
     c.without_reference.ensures
 
-closed-spelled : (text : List ℕ) (r : Result Tree ParseFault) → Tells (closed_expression_of text) r → IfOk r IsSpelled
+closed-spelled : (text : List ℕ) (r : Result Tree ParseFault) → Tells (closed_expression_in text) r → IfOk r IsSpelled
 closed-spelled text (Ok t) h = parsed_is_spelled text t (closed_is text (Ok t) h).parses
 closed-spelled text (Err e) h = tt
 
-closed-references : (text : List ℕ) (r : Result Tree ParseFault) → Tells (closed_expression_of text) r → IfOk r (λ t. reference_count t ≤ 512)
+closed-references : (text : List ℕ) (r : Result Tree ParseFault) → Tells (closed_expression_in text) r → IfOk r (λ t. reference_count t ≤ 512)
 closed-references text (Ok t) h = parsed_references text t (closed_is text (Ok t) h).parses
 closed-references text (Err e) h = tt
 
-without-references : (text : List ℕ) (r : Result Tree ParseFault) → Tells (closed_expression_of text) r → IfOk r (λ t. reference_count t ≡ 0)
+without-references : (text : List ℕ) (r : Result Tree ParseFault) → Tells (closed_expression_in text) r → IfOk r (λ t. reference_count t ≡ 0)
 without-references text (Ok t) h =
     let is : IsClosed text t = closed_is text (Ok t) h in
     (closed_has_no_references text t is.parses).0 is.none

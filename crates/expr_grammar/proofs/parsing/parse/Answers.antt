@@ -3,8 +3,8 @@ use Rattle.std.specs.Prelude.{IfOk, Result, Ok, Err}
 use Rattle.expr_grammar.specs.declared.fault.ParseFault.{ParseFault}
 use Rattle.expr_grammar.specs.declared.fault.ParseFault.TheVariants as fault
 use Rattle.expr_grammar.specs.Parse.{MeetsParse}
-use Rattle.expr_grammar.specs.Spelled.{IsSpelled}
-use Rattle.expr_grammar.specs.Tree.{Tree}
+use Rattle.expr_tree.specs.Spelled.{IsSpelled}
+use Rattle.expr_tree.specs.Tree.{Tree}
 use Rattle.expr_grammar.proofs.ExpressionLemmas.{tells}
 use Rattle.expr_grammar.proofs.ReferenceLimit.{answer_references}
 use Rattle.expr_grammar.proofs.SpelledTrees.{parsed_is_spelled}

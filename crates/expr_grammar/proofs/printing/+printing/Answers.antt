@@ -1,8 +1,8 @@
 use Rattle.std.proofs.Common.{◌≡◌, ◌≤◌, get_or, ap, sym, ◌∙◌, List, arith}
-use Rattle.expr_grammar.specs.Levels.{arguments_of}
-use Rattle.expr_grammar.specs.Nodes.{node_count, argument_nodes}
-use Rattle.expr_grammar.specs.declared.expr.Argument.{Argument}
-use Rattle.expr_grammar.proofs.ArgumentNodes.{nodes_of, argument_nodes-at}
+use Rattle.expr_tree.specs.NodesAsTrees.{arguments_of}
+use Rattle.expr_tree.specs.Nodes.{node_count, argument_nodes}
+use Rattle.expr_tree.specs.declared.expr.Argument.{Argument}
+use Rattle.expr_tree.proofs.ArgumentNodes.{nodes_of, argument_nodes-at}
 use Rattle.expr_grammar.proofs.printing.+printing.Goals as goal
 
 pub push_arguments-push_tree-requires : goal.push_arguments-push_tree-requires

@@ -1,6 +1,6 @@
 use Rattle.std.proofs.Common.{◌≡◌, ◌+◌, ◌*◌, [], ◌++◌, drop, cond, string_bytes}
-use Rattle.expr_grammar.specs.Levels.{arguments_of}
-use Rattle.expr_grammar.specs.Nodes.{node_count, argument_nodes}
+use Rattle.expr_tree.specs.NodesAsTrees.{arguments_of}
+use Rattle.expr_tree.specs.Nodes.{node_count, argument_nodes}
 use Rattle.expr_grammar.specs.Printed.{separator_text, printed_arguments}
 use Rattle.expr_grammar.proofs.printing.+printing.Given as goal
 

@@ -1,6 +1,6 @@
 use Rattle.std.proofs.Common.{◌≡◌, ◌+◌, ◌≤◌, drop, min}
-use Rattle.expr_grammar.specs.Levels.{arguments_of}
-use Rattle.expr_grammar.specs.References.{argument_references}
+use Rattle.expr_tree.specs.NodesAsTrees.{arguments_of}
+use Rattle.expr_tree.specs.References.{argument_references}
 use Rattle.doc_tables.specs.Counted.{reached_count}
 use Rattle.doc_tables.proofs.tables.Tables.+reached_in.Given as goal
 

@@ -2,7 +2,7 @@ use Rattle.std.proofs.Common.{List, Option, Some, subst, ap, ◌∙◌, map}
 use Rattle.std.proofs.lemmas.Result.{IfOk-weaker}
 use Rattle.object_paths.specs.Slots.{Slot}
 use Rattle.document_model.specs.Slots.{rule_of_content}
-use Rattle.expr_grammar.specs.ListedReferences.{reference_of}
+use Rattle.expr_tree.specs.ListedReferences.{reference_of}
 use Rattle.doc_tables.specs.Accessors.{AreReached}
 use Rattle.doc_tables.proofs.DependencyLemmas.{reached-listed}
 use Rattle.doc_tables.proofs.tables.Tables.references_of.Goals as goal

@@ -1,5 +1,5 @@
 use Rattle.std.proofs.Common.{map, take}
-use Rattle.expr_grammar.specs.ListedReferences.{reference_of}
+use Rattle.expr_tree.specs.ListedReferences.{reference_of}
 use Rattle.doc_tables.specs.Accessors.{AreReached}
 use Rattle.doc_tables.specs.Entries.{reached_by}
 use Rattle.doc_tables.proofs.tables.Tables.slots_reached.Given as goal

@@ -1,0 +1,12 @@
+pub mod Functions
+pub mod Tree
+pub mod TreeCode
+pub mod Nodes
+pub mod NodesAsTrees
+pub mod TreeFalls
+pub mod References
+pub mod ListedReferences
+pub mod Spelled
+pub mod Numbered
+pub mod Joined
+pub mod Renaming
