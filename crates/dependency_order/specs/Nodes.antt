@@ -17,7 +17,7 @@ pub record AreNodes {A : Type 0} (inputs : List (Vec ℕ A)) : Type 0 where
 abbrev pub HasCycle : {A : Type 0} → List (Vec ℕ A) → Type 0
 HasCycle inputs = (n : ℕ) × (n < length inputs) × Reaches (inputs_of inputs) n n
 
--- each node stands once, behind what it reads, and nothing else stands there
+-- each node stands once, after what it reads, and nothing else stands there
 pub record OrdersAll {A : Type 0} (inputs : List (Vec ℕ A)) (order : List ℕ) : Type 0 where
   pub ordered : IsOrdered (inputs_of inputs) [] order
   pub all : (n : ℕ) → n < length inputs → IsIn n order

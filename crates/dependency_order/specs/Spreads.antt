@@ -1,3 +1,4 @@
+-- Private: only contracts inside this crate cite this.
 -- A search that spreads from a node over all that it reaches.
 use Rattle.std.specs.Prelude.{◌≡◌, ◌⊎◌, ℕ, ◌+◌, ◌<◌, Bool, true, false, not, List, length, slice_index_or, count_by, Vec}
 use Rattle.fc_base.specs.Graph.{IsIn, Reaches}

@@ -1,3 +1,4 @@
+-- Private: only contracts inside this crate cite this.
 -- A walk into the depth: each node is new, open or done, the open ones stand on the path that leads to
 -- the node at hand, and the done ones in the order so far.
 use Rattle.std.specs.Prelude.{◌≡◌, ℕ, suc, ◌+◌, ◌-◌, ◌<◌, List, [], ◌∷◌, length, take, slice_index_or, sum_by, Vec}

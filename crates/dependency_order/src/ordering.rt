@@ -4,7 +4,7 @@ ghost use Rattle.dependency_order.specs.Nodes.{AreNodes, IsOrderOf};
 use crate::walk::Walk;
 use std::alloc::{AllocError, Global};
 
-/// The nodes in an order in which each stands behind its inputs; none where a node reaches itself.
+/// The nodes in an order in which each stands after its inputs; none where a node reaches itself.
 /// `inputs` has for each node, by its number, the numbers of the nodes that it reads, perhaps some of
 /// them again. The time is linear in the nodes and inputs, and no call goes deep.
 pub fn in_order(alloc: Global, inputs: &[Vec<u32>]) -> Result<Option<Vec<u32>>, AllocError>

@@ -58,8 +58,8 @@ impl Spread {
 }
 
 /// Whether a node reaches itself, directly or through others. `inputs` has for each node, by its
-/// number, the numbers of the nodes that it reads, perhaps some of them again. Each node is looked at
-/// once, and none that the node does not reach.
+/// number, the numbers of the nodes that it reads, perhaps some of them again. Each node that it
+/// reaches is looked at once, so the time is linear in the nodes and in the inputs of these.
 pub fn reaches_itself(alloc: Global, inputs: &[Vec<u32>], node: u32) -> Result<bool, AllocError>
     requires nodes { AreNodes inputs.now }
     requires node { node < length inputs.now }

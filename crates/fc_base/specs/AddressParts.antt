@@ -1,3 +1,4 @@
+-- Private: only contracts inside this crate cite this.
 -- The parts of an address, in the order in which they are read.
 use Rattle.std.specs.Prelude.{ℕ, Bool, ◌&&◌, ◌==◌, nat_lt, nat_le, not, if◌then◌else◌, List, length, take, drop, slice_index, Option, Some, None}
 use Rattle.std.specs.Option.{option_map}

@@ -1,3 +1,4 @@
+-- Private: only contracts inside this crate cite this.
 -- What reading up to a limit and writing whole do, and which fault an error of the system is.
 use Rattle.std.specs.Prelude.{◌≡◌, ℕ, ◌<◌, ◌≤◌, List, ◌++◌, length, Option, Result, Ok, Err, Vec, IfSome, ⊤, alloc_error}
 use Rattle.std.specs.Io.KnownBytes.{Appends, Consumes}

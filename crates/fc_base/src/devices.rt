@@ -1,4 +1,4 @@
-// The outside: a store of named bytes, and a sink that bytes are written to.
+//! The outside: a store of named bytes, and a sink that bytes are written to.
 ghost use Rattle.std.specs.Prelude.{◌≡◌, ℕ, ◌<◌, ◌≤◌, List, Option, length, IfOk, IfSome};
 ghost use Rattle.std.specs.Io.KnownBytes.{WriteAppends};
 ghost use Rattle.fc_base.specs.Devices.{Held, HasCause, Fetches, Puts, fetch_failed, device_failed};

@@ -1,4 +1,4 @@
-// A store over the files of the system.
+//! A store over the files of the system.
 ghost use Rattle.std.specs.Prelude.{◌≡◌, ◌≤◌, None, IfOk, if◌then◌else◌, vec_len};
 ghost use Rattle.fc_base.specs.Devices.{HasCause, fetch_failed, device_failed};
 ghost use Rattle.fc_base.specs.Calls.{next_count};

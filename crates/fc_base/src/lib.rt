@@ -1,4 +1,15 @@
 //! The base of every layer: names and texts, the places of cells, and the outside.
+//!
+//! - `Name`, `Label` and `TextValue` are texts that keep a rule each; `SourceBytes` are bytes that
+//!   are kept as they stand. To read, to copy and to compare one takes time with its text.
+//! - `Address` and `Area` are the places of cells, as `$B7` and `A1:C3`.
+//! - `Store` and `Sink` are what the program knows of the outside. `FileStore` and `StdSink` are the
+//!   system's, `MemoryStore` and `MemorySink` stand in memory and fail where they are told to.
+//! - `Steps` counts the steps of a computation. `ObjectId` and `SlotId` are numbers in a document.
+//! - `laws` has what holds of graphs: of what is reached, and of orders.
+//!
+//! The rules of texts and cells stand in docs/names.md, those of the outside in docs/outside.md. The
+//! rows that try them are `addresses`, `devices` and `names` in `worked_rows/src`.
 #![tactic(auto)]
 
 mod address;

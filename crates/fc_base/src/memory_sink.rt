@@ -1,4 +1,4 @@
-// A sink in memory, for tests and for callers that write to no file.
+//! A sink in memory, for tests and for callers that write to no file.
 ghost use Rattle.std.specs.Prelude.{◌≡◌, ◌<◌, ◌≤◌, [], Some, IfOk, length, min};
 ghost use Rattle.std.specs.Io.KnownBytes.{WriteAppends};
 ghost use Rattle.fc_base.specs.Devices.{HasCause, device_failed};

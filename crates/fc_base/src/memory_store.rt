@@ -1,4 +1,4 @@
-// A store in memory, for tests and for callers that keep no files.
+//! A store in memory, for tests and for callers that keep no files.
 ghost use Rattle.std.specs.Prelude.{◌≡◌, Some, OnOk, OnErr};
 ghost use Rattle.std.specs.FinMap as map;
 ghost use Rattle.fc_base.specs.Devices.{HasCause, Fetches, PutLeaves, fetch_failed, device_failed};

@@ -1,4 +1,4 @@
-// Reading up to a limit and writing whole, over any reader and any writer.
+//! Reading up to a limit and writing whole, over any reader and any writer.
 ghost use Rattle.std.specs.Prelude.{◌≡◌, ◌+◌, ◌<◌, ◌≤◌, IsTrue, OnOk, OnErr, IfOk, IsErrOf, length};
 ghost use Rattle.std.specs.IoError.{error_kind};
 ghost use Rattle.std.specs.Io.KnownBytes.{Appends, IsAtEnd};

@@ -1,4 +1,4 @@
-// A sink over a writer, such as standard output.
+//! A sink over a writer, such as standard output.
 ghost use Rattle.std.specs.Prelude.{◌≡◌, ◌<◌, ◌≤◌, None, OnOk, OnErr, IfOk, if◌then◌else◌, length};
 ghost use Rattle.std.specs.Io.KnownBytes.{Appends, WriteAppends};
 ghost use Rattle.fc_base.specs.Devices.{HasCause, device_failed};

@@ -37,7 +37,7 @@ impl<L> Steps<L> {
     pub fn is_bounded(&self)
         ensures { self.now ≤ 2 ^ 64 - 1 }
     {
-        let _ = self.count();
+        let _ = self.count(); // for the proof
     }
 
     /// The number of steps.

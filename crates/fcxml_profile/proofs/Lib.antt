@@ -1,4 +1,4 @@
-mod FrontLemmas
+pub mod FrontLemmas
 mod Shorter
 mod AttributeLemmas
 mod ItemLemmas

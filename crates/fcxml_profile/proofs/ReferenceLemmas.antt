@@ -8,7 +8,7 @@ use Rattle.std.proofs.lemmas.List.{append-nil, length-append}
 use Rattle.std.proofs.lemmas.Str.{encode_ascii, inside_one, len_utf8_bounds, length-encode}
 use Rattle.fcxml_profile.specs.Fronts.{after, split_at}
 use Rattle.fcxml_profile.specs.References.{replacement_of, reference_at, with_front, replaced, is_spacing, after_return, plain, read_within}
-use Rattle.fcxml_profile.specs.ValueReading.{meaning_of}
+use Rattle.fcxml_profile.specs.Meanings.{meaning_of}
 use Rattle.fcxml_profile.proofs.Shorter.{bind_some, after-shorter, split_at-shorter}
 
 -- ---- what follows is shorter

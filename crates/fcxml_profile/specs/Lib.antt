@@ -5,6 +5,7 @@ pub mod ToldAttributes
 pub mod Told
 pub mod Standing
 pub mod References
+pub mod Meanings
 pub mod ValueReading
 pub mod Faults
 pub mod Scanning

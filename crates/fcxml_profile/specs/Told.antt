@@ -1,3 +1,4 @@
+-- Private: only contracts inside this crate cite this.
 -- Items as the code has them.
 use Rattle.std.specs.Prelude.{ℕ, ◌-◌, List, length}
 use Rattle.std.specs.Borrow.{Bor}

@@ -6,7 +6,8 @@ ghost use Rattle.std.specs.Option.{SomeIff};
 ghost use Rattle.std.specs.Str.Parse.{IsNumeral, digits_value};
 ghost use Rattle.fcxml_profile.specs.Fronts.{after, split_at};
 ghost use Rattle.fcxml_profile.specs.References.{after_return, character_of, is_xml_character, number_of, numbered, read, reference_at, replacement_of};
-ghost use Rattle.fcxml_profile.specs.ValueReading.{GivesRead, meaning_of};
+ghost use Rattle.fcxml_profile.specs.Meanings.{meaning_of};
+ghost use Rattle.fcxml_profile.specs.ValueReading.{GivesRead};
 ghost use Rattle.fcxml_profile.specs.declared.references.EntityFault.TheVariants.{Memory};
 
 use crate::fronts::after;
@@ -122,7 +123,7 @@ fn reference(text: &str) -> Option<(char, &str)>
     Some((replacement(name)?, rest))
 }
 
-/// What follows a carriage return, of the text behind it: a line feed there belongs to it.
+/// What follows a carriage return, of the text after it: a line feed there belongs to it.
 fn after_return(text: &str) -> &str
     ensures { result.now ≡ after_return text.now }
 {
@@ -145,7 +146,7 @@ fn meaning(first: char, text: &str) -> Option<(char, &str)>
 impl<'a> AttributeText<'a> {
     /// The value that the text means. `&amp;`, `&lt;`, `&gt;`, `&quot;` and `&apos;` are replaced,
     /// and so are `&#65;` and `&#x41;`, of any character that XML allows. A tab or a line end that
-    /// stands there is a space.
+    /// stands there is a space. The time grows with the value.
     pub fn read(&self, alloc: Global) -> Result<String, EntityFault>
         ensures { GivesRead result (read self.now) }
     {
