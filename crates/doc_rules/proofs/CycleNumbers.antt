@@ -15,6 +15,7 @@ use Rattle.doc_tables.proofs.NumberLemmas.{from_mapped, at_number-within, reache
 use Rattle.doc_tables.proofs.OrderLemmas.{slots-ordered, all_slots-listed}
 use Rattle.document_outcomes.specs.Cycles.{is_cyclic, HasNoCycle}
 use Rattle.document_outcomes.specs.Faults.{Fault, cycle_faults, slot_fault}
+use Rattle.document_outcomes.specs.RefusalNumbers.{cycle}
 use Rattle.document_outcomes.proofs.CycleLemmas.{cyclic-reaches, reaches-cyclic}
 use Rattle.document_outcomes.proofs.OrderLemmas.{ordered-no_cycle}
 use Rattle.document_outcomes.proofs.SearchLemmas.{find-none, map_none, none-find, none_map}
@@ -111,13 +112,13 @@ module _ {A : Type 0} (t : Numbered) (lists : List (Vec ℕ A)) (listed : AreDep
 
     -- where a number reaches itself, the document has a cycle
     pub cycle-found : HasCycle lists → IsSome (cycle_faults t.document)
-    cycle-found cycle =
-        let s = reaching-slot (subst (λ (g : ℕ → List ℕ). Reaches g cycle.0 cycle.0) as_numbers cycle.2) in
-        let yes = (cyclic-number cycle.0 s.0 s.1).0 cycle.2 in
+    cycle-found ring =
+        let s = reaching-slot (subst (λ (g : ℕ → List ℕ). Reaches g ring.0 ring.0) as_numbers ring.2) in
+        let yes = (cyclic-number ring.0 s.0 s.1).0 ring.2 in
         elim (cycle_faults t.document) as (λ (o : Option Fault). cycle_faults t.document ≡ o → IsSome o) [
           | None ↦ λ e.
-              let none = map_none (slot_fault 14) (find (is_cyclic t.document) (slots t.document)) e in
-              let no = find-none (is_cyclic t.document) (slots t.document) none s.0 (in_document cycle.0 s.0 s.1) in
+              let none = map_none (slot_fault cycle) (find (is_cyclic t.document) (slots t.document)) e in
+              let no = find-none (is_cyclic t.document) (slots t.document) none s.0 (in_document ring.0 s.0 s.1) in
               absurd (cc)
           | Some f ↦ λ e. refl
         ] refl
@@ -142,7 +143,7 @@ module _ {A : Type 0} (t : Numbered) (lists : List (Vec ℕ A)) (listed : AreDep
 -- where the slots stand in an order there is no cycle
 pub ordered-no_fault : (t : Numbered) (order : List ℕ) → OrdersNumbers t order → cycle_faults t.document ≡ None
 ordered-no_fault t order ordered =
-    none_map (slot_fault 14) (find (is_cyclic t.document) (slots t.document))
+    none_map (slot_fault cycle) (find (is_cyclic t.document) (slots t.document))
     (none-find (is_cyclic t.document) (slots t.document)
     (ordered-no_cycle t.document (filter_map (slot_at t) order) ordered.slots.ordered ordered.slots.all))
 

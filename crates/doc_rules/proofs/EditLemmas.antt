@@ -15,6 +15,7 @@ use Rattle.document_model.specs.Document.{Document, Object}
 use Rattle.document_model.specs.Slots.{slots}
 use Rattle.document_outcomes.specs.Sorts.{sort}
 use Rattle.document_outcomes.specs.Faults.{Fault, IsValid, first_fault, fault_within_limits, limit_faults, label_faults, link_faults, reference_fault, reference_faults, cycle_faults, sort_fault, sort_faults, range_faults, first_some, object_fault, slot_fault, number_of_cause}
+use Rattle.document_outcomes.specs.RefusalNumbers.{no_object, no_property, label_taken, out_of_range, unknown_reference, cycle, link_kind, too_many}
 use Rattle.doc_rules.specs.declared.edit.Edit.{Edit}
 use Rattle.doc_rules.specs.declared.edit.Edit.TheVariants.{SetValue, Bind}
 use Rattle.doc_rules.specs.declared.refusal.Refusal.{Refusal}
@@ -58,20 +59,20 @@ sort-named s (Err cause) f e =
 
 reference-named : (d : Document) (o : Object) (f : Fault) → reference_fault d o ≡ Some f → Named f
 reference-named d o =
-    or-named _ _ (if-named _ (object_fault 12 o) refl)
+    or-named _ _ (if-named _ (object_fault unknown_reference o) refl)
     (or-named _ _ (map-named _ _ (λ e. refl)) (map-named _ _ (λ r. refl)))
 
 -- the first fault of a document has a number that has a name
 pub first_fault-named : (d : Document) (f : Fault) → first_fault d ≡ Some f → IsTrue (is_refusal_number f.number)
 unfolding first_fault fault_within_limits
 first_fault-named d =
-    or-named (limit_faults d) _ (if-named _ (record { number = 29; subject = [] }) refl)
-    (or-named (label_faults d) _ (map-named (object_fault 6) _ (λ o. refl))
-    (or-named (link_faults d) _ (map-named (object_fault 23) _ (λ o. refl))
+    or-named (limit_faults d) _ (if-named _ (record { number = too_many; subject = [] }) refl)
+    (or-named (label_faults d) _ (map-named (object_fault label_taken) _ (λ o. refl))
+    (or-named (link_faults d) _ (map-named (object_fault link_kind) _ (λ o. refl))
     (or-named (reference_faults d) _ (some-named (reference_fault d) (reference-named d) d.objects)
-    (or-named (cycle_faults d) _ (map-named (slot_fault 14) _ (λ s. refl))
+    (or-named (cycle_faults d) _ (map-named (slot_fault cycle) _ (λ s. refl))
     (or-named (sort_faults d) _ (some-named (λ s. sort_fault s (sort d s)) (λ s. sort-named s (sort d s)) (slots d))
-    (map-named (slot_fault 10) _ (λ s. refl)))))))
+    (map-named (slot_fault out_of_range) _ (λ s. refl)))))))
 
 -- ---- edits
 
@@ -96,7 +97,7 @@ bound_to-named d s (Err f) = named-is (refusal_of_text f) refl _ refl
 
 value_fitted-named : (given : Outcome) (r : Refusal) → value_fitted given ≡ Err r → IsNamed r
 value_fitted-named (Ok v) r e = absurd (cc)
-value_fitted-named (Err fault) r e = named-is (refused 10) refl _ refl r e
+value_fitted-named (Err fault) r e = named-is (refused out_of_range) refl _ refl r e
 
 value_sorted-named : (d : Document) (s : Slot) (e : Tree) (found : SortOutcome) (r : Refusal) → value_sorted d s e found ≡ Err r → IsNamed r
 value_sorted-named d s e (Ok sort) = value_fitted-named _
@@ -110,11 +111,11 @@ set_to-named : (d : Document) (s : Slot) (found : Result Tree ExprFault) (r : Re
 set_to-named d s found = on_one-named _ (value_read d s found) (λ v. accepted-named _) (value_read-named d s found)
 
 slot_there-named : (s : Option Slot) (r : Refusal) → slot_there s ≡ Err r → IsNamed r
-slot_there-named None r e = named-is (refused 3) refl _ refl r e
+slot_there-named None r e = named-is (refused no_property) refl _ refl r e
 slot_there-named (Some s) r e = absurd (cc)
 
 slot_behind-named : (d : Document) (p : Path) (o : Option Object) (r : Refusal) → slot_behind d p o ≡ Err r → IsNamed r
-slot_behind-named d p None = named-is (refused 2) refl _ refl
+slot_behind-named d p None = named-is (refused no_object) refl _ refl
 slot_behind-named d p (Some o) = slot_there-named _
 
 pub slot_commanded-named : (d : Document) (p : Path) (r : Refusal) → slot_commanded d p ≡ Err r → IsNamed r

@@ -10,6 +10,7 @@ use Rattle.object_paths.specs.Slots.{same_text}
 use Rattle.document_model.specs.Document.{Document, Object, object_named, object_labelled}
 use Rattle.document_model.proofs.Members.{and_then_some, map_some}
 use Rattle.document_outcomes.specs.Faults.{Fault, object_fault, has_taken_label, label_faults, first_some}
+use Rattle.document_outcomes.specs.RefusalNumbers.{label_taken}
 use Rattle.document_outcomes.proofs.AgreementLemmas.{from_slice_get}
 use Rattle.document_outcomes.proofs.LookupLemmas.{find-passes}
 use Rattle.doc_tables.specs.Accessors.{IsNumberOfObject}
@@ -22,7 +23,7 @@ use Rattle.doc_rules.proofs.FirstLemmas.{find-first_some, first_some-skip, first
 
 -- taken labels, object by object
 pub label_faults-objects : (d : Document) → label_faults d ≡ first_some (label_fault d) d.objects
-label_faults-objects d = find-first_some (has_taken_label d) (object_fault 6) d.objects
+label_faults-objects d = find-first_some (has_taken_label d) (object_fault label_taken) d.objects
 
 module _ (t : Numbered) where
   -- the object of a number has the number's name
@@ -88,25 +89,25 @@ module _ (t : Numbered) where
         | Some o ↦ λ e h. absurd (cc)
       ] refl told
 
-  abbrev six : List ℕ → Option Fault
-  six q = Some (record { number = 6; subject = q })
+  abbrev taken : List ℕ → Option Fault
+  taken q = Some (record { number = label_taken; subject = q })
 
   -- a label that is taken is told with the name of its object
   pub taken-told :
       (n : ℕ) (name : List ℕ) (e : CheckFault) → Some name ≡ name_at t n → true ≡ option_map_or (has_taken_label t.document) (object_at t n) false
-      → MeetsFault (Some (record { number = 6; subject = name })) (Err e) → MeetsFault (option_and_then (label_fault t.document) (object_at t n)) (Err e)
+      → MeetsFault (Some (record { number = label_taken; subject = name })) (Err e) → MeetsFault (option_and_then (label_fault t.document) (object_at t n)) (Err e)
   taken-told n name e named taken told =
-      meets-carried (Some (record { number = 6; subject = name })) (option_and_then (label_fault t.document) (object_at t n)) e
+      meets-carried (Some (record { number = label_taken; subject = name })) (option_and_then (label_fault t.document) (object_at t n)) e
       (λ f same. at_object f same (object_at t n) refl) told where
-        at_object : (f : Fault) → ◌≡◌ {A = Option Fault} (Some (record { number = 6; subject = name })) (Some f) → (o : Option Object) → object_at t n ≡ o → option_and_then (label_fault t.document) (object_at t n) ≡ Some f
+        at_object : (f : Fault) → ◌≡◌ {A = Option Fault} (Some (record { number = label_taken; subject = name })) (Some f) → (o : Option Object) → object_at t n ≡ o → option_and_then (label_fault t.document) (object_at t n) ≡ Some f
         at_object f same None found = absurd (let no : true ≡ false = taken ∙ ap (λ (q : Option Object). option_map_or (has_taken_label t.document) q false) found in cc)
         at_object f same (Some o) found =
             let yes : has_taken_label t.document o ≡ true = sym (taken ∙ ap (λ (q : Option Object). option_map_or (has_taken_label t.document) q false) found) in
             let names : Some o.name ≡ Some name = sym (standing-object n o found) ∙ sym named in
             let name_same : o.name ≡ name = cc in
             ap (option_and_then (label_fault t.document)) found
-            ∙ ap (λ (b : Bool). cond b (Some (object_fault 6 o)) None) yes
-            ∙ ap six name_same ∙ same
+            ∙ ap (λ (b : Bool). cond b (Some (object_fault label_taken o)) None) yes
+            ∙ ap taken name_same ∙ same
 
   module _ (numbered : IsNumbered t) where
     same_name-same_number : (m n : ℕ) (a b : List ℕ) → name_at t m ≡ Some a → name_at t n ≡ Some b → a ≡ b → m ≡ n

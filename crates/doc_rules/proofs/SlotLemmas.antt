@@ -22,6 +22,7 @@ use Rattle.doc_tables.specs.VarSets.{HoldsVarSets}
 use Rattle.doc_rules.specs.declared.refusal.Refusal.{Refusal}
 use Rattle.doc_rules.specs.Commanded.{IsCommanded, object_commanded, refused, slot_behind, slot_commanded, slot_there}
 use Rattle.doc_rules.proofs.VarSetFaults.{type_at-one_slot}
+use Rattle.document_outcomes.specs.RefusalNumbers.{no_object, no_property}
 
 -- the type of the slot of a number, where there is one, is no placement
 pub type-fits :
@@ -38,9 +39,9 @@ commanded-in d (ByLabel label) o e = from_find (λ (q : Object). same_text q.lab
 
 -- there is no object of a command where there is no number
 pub none-commanded : (t : Numbered) (p : Path) (id : Option ObjectId) → IsNumberOfObject t id (object_commanded t.document p.owner) → id ≡ None
-    → slot_commanded t.document p ≡ Err (refused 2)
+    → slot_commanded t.document p ≡ Err (refused no_object)
 none-commanded t p id h none =
-    elim (object_commanded t.document p.owner) as (λ (q : Option Object). IsNumberOfObject t id q → slot_behind t.document p q ≡ Err (refused 2)) [
+    elim (object_commanded t.document p.owner) as (λ (q : Option Object). IsNumberOfObject t id q → slot_behind t.document p q ≡ Err (refused no_object)) [
       | None ↦ λ k. refl
       | Some o ↦ λ k. absurd (cc)
     ] h
@@ -73,10 +74,10 @@ there-commanded t d p (Some o) n slot same h id is =
     ] refl
 
 lacks-commanded : (t : Numbered) (d : Document) (p : Path) (found n : Option Object) (slot : Option SlotId) (there : (o : Object) × (found ≡ Some o))
-    → n ≡ found → IsNumberOf t slot (option_and_then (λ o. resolve d o p) n) → slot ≡ None → slot_behind d p found ≡ Err (refused 3)
+    → n ≡ found → IsNumberOf t slot (option_and_then (λ o. resolve d o p) n) → slot ≡ None → slot_behind d p found ≡ Err (refused no_property)
 lacks-commanded t d p None n slot there same h is = absurd (cc there.1)
 lacks-commanded t d p (Some o) n slot there same h is =
-    elim (resolve d o p) as (λ (q : Option Slot). resolve d o p ≡ q → slot_there q ≡ Err (refused 3)) [
+    elim (resolve d o p) as (λ (q : Option Slot). resolve d o p ≡ q → slot_there q ≡ Err (refused no_property)) [
       | None ↦ λ e. refl
       | Some s ↦ λ e. let some : option_and_then (λ o. resolve d o p) n ≡ Some s = ap (option_and_then (λ o. resolve d o p)) same ∙ e in absurd (cc)
     ] refl
@@ -93,7 +94,7 @@ module _ (t : Numbered) (finds : FindsAll t.document) (p : Path) (id : ObjectId)
 
   -- or the refusal where it has none
   pub slot-lacking : (slot : Option SlotId) → IsNumberOf t slot (option_and_then (λ o. resolve t.document o p) (object_at t id.0)) → slot ≡ None
-      → slot_commanded t.document p ≡ Err (refused 3)
+      → slot_commanded t.document p ≡ Err (refused no_property)
   slot-lacking slot h =
       lacks-commanded t t.document p (object_commanded t.document p.owner) (object_at t id.0) slot (commanded-there _ object)
       (number-commanded t finds p.owner id object) h

@@ -33,6 +33,7 @@ use Rattle.doc_tables.proofs.HeldLemmas.{one_slot}
 use Rattle.document_outcomes.specs.Cycles.{is_cyclic, leads_back, targets}
 use Rattle.document_outcomes.specs.Faults.{Fault, first_some, slot_fault, object_fault, link_faults, lacks_bounds, lacks_object, stray_override, is_mirrored, is_unknown, is_missing, has_unknown, reference_fault, reference_faults, cycle_faults, range_faults}
 use Rattle.document_outcomes.specs.Limits.{has_too_large, has_too_many}
+use Rattle.document_outcomes.specs.RefusalNumbers.{out_of_range, unknown_reference, cycle, link_kind}
 use Rattle.document_outcomes.proofs.SearchLemmas.{none-find}
 use Rattle.doc_tables.specs.FindsAll.{FindsAll}
 use Rattle.doc_rules.specs.KindFaults.{fault_if, tree_of, has_large_tree, has_unknown_reference, unknown_fault, cycle_fault, has_value_outside, range_fault}
@@ -102,7 +103,7 @@ module _ (d : Document) (holds : HoldsVarSets d) where
   -- there are no links, and no members
   pub link_faults-none : link_faults d ≡ None
   link_faults-none =
-      ap (option_map (object_fault 23))
+      ap (option_map (object_fault link_kind))
       (none-find (λ (o : Object). leads_back d o || list_any (lacks_bounds d) o.members) d.objects
       (λ o i. ap (λ (b : Bool). b || list_any (lacks_bounds d) o.members) (none-leads_back o) ∙ ap (list_any (lacks_bounds d)) (members-none o (set_of o i))))
 
@@ -186,13 +187,13 @@ module _ (d : Document) (holds : HoldsVarSets d) where
         let nothing : lacks_object d o ≡ false =
         (λ j. option_map_or (is_missing d) (target-none o set j) false || list_any (is_missing d) (members-none o set j)) in
         let stray : stray_override d o ≡ None = ap (find (λ (e : SlotName × Content). not (is_mirrored d o e.0))) (overrides-none o set) in
-        (λ j. option_or (cond (nothing j) (Some (object_fault 12 o)) None)
-        (option_or (option_map (λ (e : SlotName × Content). slot_fault 12 (slot_of o e.0)) (stray j))
-        (option_map (λ (r : Row). slot_fault 12 (slot_of o r.name)) (find (λ (r : Row). has_unknown d o r.rule) (rows d o)))))
-        ∙ find-first_some (λ (r : Row). has_unknown d o r.rule) (λ (r : Row). slot_fault 12 (slot_of o r.name)) (rows d o)
-        ∙ first_some-same (λ (r : Row). cond (has_unknown d o r.rule) (Some (slot_fault 12 (slot_of o r.name))) None)
+        (λ j. option_or (cond (nothing j) (Some (object_fault unknown_reference o)) None)
+        (option_or (option_map (λ (e : SlotName × Content). slot_fault unknown_reference (slot_of o e.0)) (stray j))
+        (option_map (λ (r : Row). slot_fault unknown_reference (slot_of o r.name)) (find (λ (r : Row). has_unknown d o r.rule) (rows d o)))))
+        ∙ find-first_some (λ (r : Row). has_unknown d o r.rule) (λ (r : Row). slot_fault unknown_reference (slot_of o r.name)) (rows d o)
+        ∙ first_some-same (λ (r : Row). cond (has_unknown d o r.rule) (Some (slot_fault unknown_reference (slot_of o r.name))) None)
         (λ (r : Row). unknown_fault d (slot_of o r.name)) (rows d o)
-        (λ r i. ap (λ b. cond b (Some (slot_fault 12 (slot_of o r.name))) None) (row-unknown o r here i))
+        (λ r i. ap (λ b. cond b (Some (slot_fault unknown_reference (slot_of o r.name))) None) (row-unknown o r here i))
 
     -- an unknown reference is one of a slot
     pub reference_faults-slots : reference_faults d ≡ first_some (unknown_fault d) (slots d)
@@ -264,7 +265,7 @@ too_many-rest d holds objects all nodes dependencies a b c e kept =
 
 -- the other kinds, slot by slot
 pub cycle_faults-slots : (d : Document) → cycle_faults d ≡ first_some (cycle_fault d) (slots d)
-cycle_faults-slots d = find-first_some (is_cyclic d) (slot_fault 14) (slots d)
+cycle_faults-slots d = find-first_some (is_cyclic d) (slot_fault cycle) (slots d)
 
 pub range_faults-slots : (d : Document) → range_faults d ≡ first_some (range_fault d) (slots d)
-range_faults-slots d = find-first_some (has_value_outside d) (slot_fault 10) (slots d)
+range_faults-slots d = find-first_some (has_value_outside d) (slot_fault out_of_range) (slots d)

@@ -7,6 +7,7 @@ use Rattle.object_paths.specs.declared.path.Owner.TheVariants.{Here, ByName, ByL
 use Rattle.object_paths.specs.Slots.{Slot}
 use Rattle.document_model.specs.Document.{Document, Object, object_named, object_labelled}
 use Rattle.document_model.specs.Resolution.{resolve}
+use Rattle.document_outcomes.specs.RefusalNumbers.{no_object, no_property}
 use Rattle.doc_tables.specs.Numbered.{Numbered, slot_at}
 use Rattle.doc_rules.specs.declared.refusal.Refusal.{Refusal}
 
@@ -22,12 +23,12 @@ object_commanded d (ByLabel label) = object_labelled d label
 
 -- the slot of the object, 3 where it has none of that name
 abbrev pub slot_there : Option Slot → Result Slot Refusal
-slot_there None = Err (refused 3)
+slot_there None = Err (refused no_property)
 slot_there (Some s) = Ok s
 
 -- the slot of the object that the path names, 2 where there is no such object
 abbrev pub slot_behind : Document → Path → Option Object → Result Slot Refusal
-slot_behind d p None = Err (refused 2)
+slot_behind d p None = Err (refused no_object)
 slot_behind d p (Some o) = slot_there (resolve d o p)
 
 -- the slot that the path of a command names, or why it names none

@@ -21,6 +21,7 @@ use Rattle.document_model.specs.Edited.{with_content}
 use Rattle.document_model.specs.Slots.{slots, type_of}
 use Rattle.document_outcomes.specs.Faults.{Fault, first_fault, number_of_cause}
 use Rattle.document_outcomes.specs.Full.{fitted}
+use Rattle.document_outcomes.specs.RefusalNumbers.{out_of_range, expr_syntax}
 use Rattle.document_outcomes.specs.Sorts.{bound_sort}
 use Rattle.doc_tables.specs.Numbered.{Numbered, slot_at}
 use Rattle.doc_rules.specs.declared.edit.Edit.{Edit}
@@ -54,7 +55,7 @@ fault_told told = record { number = told.number; subject = told.subject }
 
 -- an expression that cannot be read, with its place
 abbrev pub refusal_of_text : ExprFault → Refusal
-refusal_of_text f = record { number = 11; subject = None; place = Some f.place }
+refusal_of_text f = record { number = expr_syntax; subject = None; place = Some f.place }
 
 -- an expression without the sort that is wanted
 abbrev pub refusal_of_sort : SortCause → Refusal
@@ -85,7 +86,7 @@ no_outcomes = record { at = λ k. Err Range; inside = λ k. [] }
 -- the value that a slot is given; a fault is outside its type
 abbrev pub value_fitted : Outcome → Result Value Refusal
 value_fitted (Ok v) = Ok v
-value_fitted (Err fault) = Err (refused 10)
+value_fitted (Err fault) = Err (refused out_of_range)
 
 -- the value of a closed expression in a slot, by the sort that it has there
 abbrev pub value_sorted : Document → Slot → Tree → SortOutcome → Result Value Refusal

@@ -12,6 +12,7 @@ use Rattle.doc_tables.specs.Accessors.{slots_reached, tree_by}
 use Rattle.doc_tables.specs.Numbered.{Numbered, slot_at}
 use Rattle.document_outcomes.specs.Cycles.{is_cyclic}
 use Rattle.document_outcomes.specs.Faults.{Fault, object_fault, slot_fault, has_taken_label, is_outside, sort_fault}
+use Rattle.document_outcomes.specs.RefusalNumbers.{label_taken, out_of_range, unknown_reference, cycle}
 use Rattle.document_outcomes.specs.Sorts.{sort}
 
 -- the fault of a slot that breaks a rule
@@ -24,7 +25,7 @@ fault_at t fault id = option_and_then fault (slot_at t id.0)
 
 -- the fault of an object whose label an earlier one has
 abbrev pub label_fault : Document → Object → Option Fault
-label_fault d o = if has_taken_label d o then Some (object_fault 6 o) else None
+label_fault d o = if has_taken_label d o then Some (object_fault label_taken o) else None
 
 -- the expression of a slot
 abbrev pub tree_of : Document → Slot → Option Tree
@@ -39,10 +40,10 @@ abbrev pub has_unknown_reference : Document → Slot → Bool
 has_unknown_reference d s = list_any is_none (option_map_or (slots_reached d s) (tree_of d s) [])
 
 abbrev pub unknown_fault : Document → Slot → Option Fault
-unknown_fault d = fault_if 12 (has_unknown_reference d)
+unknown_fault d = fault_if unknown_reference (has_unknown_reference d)
 
 abbrev pub cycle_fault : Document → Slot → Option Fault
-cycle_fault d = fault_if 14 (is_cyclic d)
+cycle_fault d = fault_if cycle (is_cyclic d)
 
 abbrev pub fault_of_sort : Document → Slot → Option Fault
 fault_of_sort d s = sort_fault s (sort d s)
@@ -52,4 +53,4 @@ abbrev pub has_value_outside : Document → Slot → Bool
 has_value_outside d s = is_outside (type_of d s) (rule_of d s)
 
 abbrev pub range_fault : Document → Slot → Option Fault
-range_fault d = fault_if 10 (has_value_outside d)
+range_fault d = fault_if out_of_range (has_value_outside d)

@@ -1,18 +1,28 @@
 -- Why commands are refused, and how a refusal is written.
 use Rattle.std.specs.Prelude.{ℕ, Bool, ◌==◌, List, [], ◌∷◌, ◌++◌, find, Option, is_some, decimal, codes}
 use Rattle.std.specs.Option.{option_map_or}
+use Rattle.document_outcomes.specs.RefusalNumbers as number
 use Rattle.doc_rules.specs.declared.refusal.Refusal.{Refusal}
 
--- the numbers and names of refusals
+-- the numbers of refusals, and the names that are written
 abbrev pub refusals : List (ℕ × List ℕ)
 refusals =
-    (1, codes "Syntax") ∷ (2, codes "NoObject") ∷ (3, codes "NoProperty") ∷ (4, codes "NameTaken") ∷ (5, codes "BadName")
-    ∷ (6, codes "LabelTaken") ∷ (7, codes "BadLabel") ∷ (8, codes "ReadOnly") ∷ (9, codes "WrongType") ∷ (10, codes "OutOfRange")
-    ∷ (11, codes "ExprSyntax") ∷ (12, codes "UnknownReference") ∷ (13, codes "NotDynamic") ∷ (14, codes "Cycle")
-    ∷ (15, codes "UnitMismatch") ∷ (16, codes "KindMismatch") ∷ (17, codes "ExponentRange") ∷ (18, codes "NotOverridden")
-    ∷ (19, codes "SheetEdge") ∷ (20, codes "CellTaken") ∷ (21, codes "BadAlias") ∷ (22, codes "AliasTaken") ∷ (23, codes "LinkKind")
-    ∷ (24, codes "TransactionOpen") ∷ (25, codes "NoTransaction") ∷ (26, codes "NothingToUndo") ∷ (27, codes "NothingToRedo")
-    ∷ (28, codes "NotRecomputed") ∷ (29, codes "TooMany") ∷ (30, codes "NoFeature") ∷ (99, codes "NotBuilt") ∷ []
+    (number.syntax, codes "Syntax") ∷ (number.no_object, codes "NoObject")
+    ∷ (number.no_property, codes "NoProperty") ∷ (number.name_taken, codes "NameTaken")
+    ∷ (number.bad_name, codes "BadName") ∷ (number.label_taken, codes "LabelTaken")
+    ∷ (number.bad_label, codes "BadLabel") ∷ (number.read_only, codes "ReadOnly")
+    ∷ (number.wrong_type, codes "WrongType") ∷ (number.out_of_range, codes "OutOfRange")
+    ∷ (number.expr_syntax, codes "ExprSyntax") ∷ (number.unknown_reference, codes "UnknownReference")
+    ∷ (number.not_dynamic, codes "NotDynamic") ∷ (number.cycle, codes "Cycle")
+    ∷ (number.unit_mismatch, codes "UnitMismatch") ∷ (number.kind_mismatch, codes "KindMismatch")
+    ∷ (number.exponent_range, codes "ExponentRange") ∷ (number.not_overridden, codes "NotOverridden")
+    ∷ (number.sheet_edge, codes "SheetEdge") ∷ (number.cell_taken, codes "CellTaken")
+    ∷ (number.bad_alias, codes "BadAlias") ∷ (number.alias_taken, codes "AliasTaken")
+    ∷ (number.link_kind, codes "LinkKind") ∷ (number.transaction_open, codes "TransactionOpen")
+    ∷ (number.no_transaction, codes "NoTransaction") ∷ (number.nothing_to_undo, codes "NothingToUndo")
+    ∷ (number.nothing_to_redo, codes "NothingToRedo") ∷ (number.not_recomputed, codes "NotRecomputed")
+    ∷ (number.too_many, codes "TooMany") ∷ (number.no_feature, codes "NoFeature")
+    ∷ (number.not_built, codes "NotBuilt") ∷ []
 
 -- the refusal of a number
 abbrev pub refusal_of : ℕ → Option (ℕ × List ℕ)

@@ -19,7 +19,7 @@ fn check_within_limits(alloc: Global, tables: &Tables, listed: &[SlotId]) -> Res
     requires { AreNumbersOf tables.now listed.now (slots tables.now.document) }
     ensures { MeetsFault (fault_within_limits tables.now.document) result }
 {
-    tables.holds_var_sets();
+    tables.holds_var_sets(); // for the proof
     check_labels(alloc, tables)?;
     check_references(alloc, tables, listed)?;
     let order = check_cycles(alloc, tables, listed)?;
@@ -27,10 +27,14 @@ fn check_within_limits(alloc: Global, tables: &Tables, listed: &[SlotId]) -> Res
     check_values(alloc, tables, listed)
 }
 
-/// The first fault of a document, if it has any. Kind by kind it is a limit that is passed (29), a
-/// label that an earlier object has (6), a reference that names no slot (12), a slot that depends on
-/// itself (14), a slot without a sort (15 to 17), and an own value outside its type (10); of each
-/// kind the first in the document.
+/// The first fault of a document, if it has any. Kind by kind it is a limit that is passed (TooMany,
+/// 29), a label that an earlier object has (LabelTaken, 6), a reference that names no slot
+/// (UnknownReference, 12), a slot that depends on itself (Cycle, 14), a slot without a sort
+/// (UnitMismatch, KindMismatch, ExponentRange, 15 to 17), and an own value outside its type
+/// (OutOfRange, 10); of each kind the first in the document.
+///
+/// It grows with the slots, nodes and dependencies of the document, and with the square of its
+/// objects, whose labels are compared.
 pub fn check(alloc: Global, tables: &Tables) -> Result<(), CheckFault>
     ensures { MeetsFault (first_fault tables.now.document) result }
 {

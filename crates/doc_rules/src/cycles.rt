@@ -11,6 +11,7 @@ ghost use Rattle.doc_rules.specs.KindFaults.{cycle_fault, fault_at};
 ghost use Rattle.doc_rules.specs.SortTables.{OrdersNumbers};
 
 use crate::fault::CheckFault;
+use crate::numbers::CYCLE;
 use crate::subjects::slot_fault;
 use dependency_order::{in_order, reaches_itself};
 use doc_tables::Tables;
@@ -22,7 +23,7 @@ fn dependency_nodes(alloc: Global, tables: &Tables) -> Result<Vec<Vec<u32>>, All
     ensures listed { IfOk result (λ lists. AreDependencyLists tables.now (map (λ list. list.items) lists.items)) }
     ensures nodes { IfOk result (λ lists. AreNodes lists.items) }
 {
-    let _numbers_fit = tables.slot_limit();
+    let _ = tables.slot_limit(); // for the proof
     tables.dependency_lists(alloc)
 }
 
@@ -38,11 +39,11 @@ fn is_cyclic(
     requires nodes { AreNodes lists.now }
     ensures { IfOk result (λ cyclic. option_map (is_cyclic tables.now.document) (slot_at tables.now slot.0) ≡ Some cyclic) }
 {
-    tables.is_numbered();
+    tables.is_numbered(); // for the proof
     reaches_itself(alloc, lists, slot.0)
 }
 
-/// Whether a slot does not depend on itself.
+/// Cycle, where the slot depends on itself.
 fn check_cycle(
     alloc: Global,
     tables: &Tables,
@@ -55,12 +56,13 @@ fn check_cycle(
     ensures { MeetsFault (fault_at tables.now (cycle_fault tables.now.document) slot) result }
 {
     if is_cyclic(alloc, tables, lists, slot).map_err(CheckFault::Memory)? {
-        return Err(slot_fault(alloc, tables, 14, slot));
+        return Err(slot_fault(alloc, tables, CYCLE, slot));
     }
     Ok(())
 }
 
-/// Whether no slot depends on itself, slot by slot.
+/// Cycle of the first slot that depends on itself. From each slot its dependencies are followed, so
+/// this grows with the number of slots times that of dependencies.
 fn check_each_cycle(
     alloc: Global,
     tables: &Tables,
@@ -78,7 +80,7 @@ fn check_each_cycle(
     Ok(())
 }
 
-/// The numbers in an order in which the slot of each stands behind those on which it depends; none
+/// The numbers in an order in which the slot of each stands after those on which it depends; none
 /// where a slot depends on itself.
 fn numbers_in_order(
     alloc: Global,
@@ -91,12 +93,27 @@ fn numbers_in_order(
         (IsSome (cycle_faults tables.now.document))
         (λ order. OrdersNumbers tables.now order.items)) }
 {
-    tables.is_numbered();
+    tables.is_numbered(); // for the proof
     in_order(alloc, lists)
 }
 
-/// The numbers of all slots in an order in which each stands behind those on which it depends, where
-/// no slot depends on itself.
+/// Cycle of the first slot that depends on itself, in a document that has one.
+fn first_cycle(alloc: Global, tables: &Tables, listed: &[SlotId], lists: &[Vec<u32>]) -> CheckFault
+    requires order { AreNumbersOf tables.now listed.now (slots tables.now.document) }
+    requires listed { AreDependencyLists tables.now (map (λ list. list.items) lists.now) }
+    requires nodes { AreNodes lists.now }
+    requires cyclic { IsSome (cycle_faults tables.now.document) }
+    ensures { MeetsFault (cycle_faults tables.now.document) (Err result) }
+{
+    match check_each_cycle(alloc, tables, listed, lists) {
+        Err(fault) => fault,
+        Ok(()) => unreachable!(),
+    }
+}
+
+/// The numbers of all slots in an order in which each stands after those on which it depends; or
+/// Cycle of the first slot that depends on itself. Only a document that has one is searched slot by
+/// slot.
 pub fn check_cycles(
     alloc: Global,
     tables: &Tables,
@@ -110,9 +127,6 @@ pub fn check_cycles(
     let lists = dependency_nodes(alloc, tables).map_err(CheckFault::Memory)?;
     match numbers_in_order(alloc, tables, &lists).map_err(CheckFault::Memory)? {
         Some(order) => Ok(order),
-        None => {
-            check_each_cycle(alloc, tables, listed, &lists)?;
-            unreachable!()
-        }
+        None => Err(first_cycle(alloc, tables, listed, &lists)),
     }
 }

@@ -1,6 +1,7 @@
 ghost use Rattle.std.specs.Prelude.{◌≡◌};
 ghost use Rattle.doc_rules.specs.declared.edit_fault.EditFault.TheVariants.{Memory};
 
+use crate::numbers::EXPR_SYNTAX;
 use crate::refusal::Refusal;
 use expr_grammar::ParseFault;
 use std::alloc::AllocError;
@@ -9,7 +10,7 @@ use thiserror::Error;
 /// Why an edit was not made.
 #[derive(Debug, Drop, Error)]
 pub enum EditFault {
-    #[error("refused")]
+    #[error("{0}")]
     Refused(Refusal),
     #[error("out of memory")]
     Memory(AllocError),
@@ -31,7 +32,7 @@ impl From<ParseFault> for EditFault {
     fn from(fault: ParseFault) -> EditFault {
         match fault {
             ParseFault::Expr(fault) => EditFault::Refused(Refusal {
-                number: 11,
+                number: EXPR_SYNTAX,
                 subject: None,
                 place: Some(fault.place),
             }),

@@ -22,6 +22,7 @@ use crate::commanded::slot_commanded;
 use crate::edit::Edit;
 use crate::edit_fault::EditFault;
 use crate::fault::{CheckFault, DocFault};
+use crate::numbers::OUT_OF_RANGE;
 use crate::refusal::Refusal;
 use crate::sort_rules::{given_as, number_of_cause};
 use crate::sorts::wanted_sort;
@@ -59,7 +60,7 @@ fn with_content(
     Ok(edited)
 }
 
-/// The tables with another content in a slot, unless the document has a fault then.
+/// A copy of the tables with another content in a slot, unless the document has a fault then.
 fn accepted(
     alloc: Global,
     tables: &Tables,
@@ -79,8 +80,13 @@ fn accepted(
     }
 }
 
-/// The tables with a slot bound to the expression of a text.
-fn bound(alloc: Global, tables: &Tables, slot: SlotId, text: &str) -> Result<Tables, EditFault>
+/// A copy of the tables with a slot bound to the expression of a text.
+fn with_binding(
+    alloc: Global,
+    tables: &Tables,
+    slot: SlotId,
+    text: &str,
+) -> Result<Tables, EditFault>
     requires { IsSome (slot_at tables.now slot.0) }
     ensures { (s : Slot) → slot_at tables.now slot.0 ≡ Some s
         → Becomes tables.now (bound_to tables.now.document s (expression_in text.now)) result }
@@ -121,14 +127,14 @@ fn value_fitted(alloc: Global, prop: Option<&PropType>, given: Outcome) -> Resul
     ensures { Answers (value_fitted (fitted (option_map (λ p. p.now) prop.entry) given)) result }
 {
     let Ok(value) = given else {
-        return Err(EditFault::Refused(Refusal::of(10)));
+        return Err(EditFault::Refused(Refusal::of(OUT_OF_RANGE)));
     };
     let Some(prop) = prop else {
         return Ok(value);
     };
     match prop.fit(alloc, &value) {
         Ok(fitted) => Ok(fitted),
-        Err(FitFault::Fault(_)) => Err(EditFault::Refused(Refusal::of(10))),
+        Err(FitFault::Fault(_)) => Err(EditFault::Refused(Refusal::of(OUT_OF_RANGE))),
         Err(FitFault::Memory(error)) => Err(EditFault::Memory(error)),
     }
 }
@@ -144,7 +150,7 @@ fn value_given(
     requires references { reference_count tree.now < 2 ^ 32 }
     ensures { (s : Slot) → slot_at tables.now slot.0 ≡ Some s → Answers (value_given tables.now.document s tree.now) result }
 {
-    tables.holds_var_sets();
+    tables.holds_var_sets(); // for the proof
     let found = closed_sort(alloc, tree)?;
     if let Err(cause) = given_as(wanted_sort(tables, slot), found) {
         return Err(EditFault::Refused(Refusal::of(number_of_cause(cause))));
@@ -163,8 +169,8 @@ fn value_read(alloc: Global, tables: &Tables, slot: SlotId, text: &str) -> Resul
     value_given(alloc, tables, slot, &tree)
 }
 
-/// The tables with a slot set to the value of a text.
-fn set(alloc: Global, tables: &Tables, slot: SlotId, text: &str) -> Result<Tables, EditFault>
+/// A copy of the tables with a slot set to the value of a text.
+fn with_value(alloc: Global, tables: &Tables, slot: SlotId, text: &str) -> Result<Tables, EditFault>
     requires { IsSome (slot_at tables.now slot.0) }
     ensures { (s : Slot) → slot_at tables.now slot.0 ≡ Some s
         → Becomes tables.now (set_to tables.now.document s (closed_expression_in text.now)) result }
@@ -173,18 +179,18 @@ fn set(alloc: Global, tables: &Tables, slot: SlotId, text: &str) -> Result<Table
     accepted(alloc, tables, slot, Content::Own(value))
 }
 
-/// The tables behind an edit.
+/// A copy of the tables after an edit.
 #[tactic(auto, unfolding(crate::specs::Edits::edited))]
 fn edited(alloc: Global, tables: &Tables, edit: &Edit) -> Result<Tables, EditFault>
     ensures { Becomes tables.now (edited tables.now.document edit.now) result }
 {
     match edit {
         Edit::SetValue { path, expr } => match slot_commanded(tables, path) {
-            Ok(slot) => set(alloc, tables, slot, expr.as_str()),
+            Ok(slot) => with_value(alloc, tables, slot, expr.as_str()),
             Err(refusal) => Err(EditFault::Refused(refusal)),
         },
         Edit::Bind { path, expr } => match slot_commanded(tables, path) {
-            Ok(slot) => bound(alloc, tables, slot, expr.as_str()),
+            Ok(slot) => with_binding(alloc, tables, slot, expr.as_str()),
             Err(refusal) => Err(EditFault::Refused(refusal)),
         },
     }
@@ -192,10 +198,14 @@ fn edited(alloc: Global, tables: &Tables, edit: &Edit) -> Result<Tables, EditFau
 
 /// Makes an edit, and answers how many references were written anew.
 ///
-/// Its refusals come in this order: 2 and 3 where its path names no object or no slot; 11 where the
-/// text is no expression, with the place, or no closed one where the slot is set; 15 to 17 where the
-/// value has no sort that the slot takes, and 10 where it is outside the slot's type; then the first
+/// Its refusals come in this order: NoObject (2) and NoProperty (3) where its path names no object or
+/// no slot; ExprSyntax (11) where the text is no expression, with the place, or no closed one where
+/// the slot is set; UnitMismatch, KindMismatch and ExponentRange (15 to 17) where the value has no
+/// sort that the slot takes, and OutOfRange (10) where it is outside the slot's type; then the first
 /// fault of the edited document, with its subject. A refused edit changes nothing.
+///
+/// The edit is made in a copy, and the whole copy is checked, so an edit costs as much as the
+/// document is large; see `check`.
 pub fn apply_edit(alloc: Global, tables: &mut Tables, edit: &Edit) -> Result<u64, EditFault>
     ensures exact { MeetsEdit tables.old tables.new (edited tables.old.document edit.now) result }
     ensures valid { OnOk result (IsValid tables.new.document) }

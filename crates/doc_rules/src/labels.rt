@@ -6,6 +6,7 @@ ghost use Rattle.doc_rules.specs.Found.{MeetsFault};
 ghost use Rattle.doc_rules.specs.KindFaults.{label_fault};
 
 use crate::fault::CheckFault;
+use crate::numbers::LABEL_TAKEN;
 use crate::subjects::object_fault;
 use doc_tables::Tables;
 use fc_base::ObjectId;
@@ -16,29 +17,30 @@ fn has_taken_label(tables: &Tables, object: ObjectId) -> bool
     requires { IsSome (object_at tables.now object.0) }
     ensures { result ≡ option_map_or (has_taken_label tables.now.document) (object_at tables.now object.0) false }
 {
-    tables.is_numbered();
+    tables.is_numbered(); // for the proof
     match tables.object_labelled(tables.label_of(object).as_str()) {
         Some(first) => first != object,
         None => false,
     }
 }
 
-/// Whether the label of an object is its own.
+/// LabelTaken, where an earlier object has the label of the object.
 fn check_label(alloc: Global, tables: &Tables, object: ObjectId) -> Result<(), CheckFault>
     requires { IsSome (object_at tables.now object.0) }
     ensures { MeetsFault (option_and_then (label_fault tables.now.document) (object_at tables.now object.0)) result }
 {
     if has_taken_label(tables, object) {
-        return Err(object_fault(alloc, 6, tables.name_of(object)));
+        return Err(object_fault(alloc, LABEL_TAKEN, tables.name_of(object)));
     }
     Ok(())
 }
 
-/// Whether no object has a label that an earlier one has.
+/// LabelTaken of the first object whose label an earlier one has. For each object the labels before
+/// its own are looked at, so this grows with the square of the number of objects.
 pub fn check_labels(alloc: Global, tables: &Tables) -> Result<(), CheckFault>
     ensures { MeetsFault (label_faults tables.now.document) result }
 {
-    tables.finds_all();
+    tables.finds_all(); // for the proof
     for place in 0..tables.object_count() {
         if let Some(object) = tables.object_at(place) {
             check_label(alloc, tables, object)?;

@@ -12,6 +12,7 @@ mod fault;
 mod labels;
 pub mod laws;
 mod limits;
+pub mod numbers;
 mod references;
 mod refusal;
 mod sort_rules;

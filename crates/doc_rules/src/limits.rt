@@ -9,28 +9,18 @@ ghost use Rattle.doc_tables.specs.Numbered.{slot_at};
 ghost use Rattle.doc_rules.specs.Found.{MeetsFault};
 
 use crate::fault::{CheckFault, DocFault};
+use crate::numbers::TOO_MANY;
 use doc_tables::Tables;
+use doc_tables::limits::{MOST_DEPENDENCIES, MOST_NODES, MOST_OBJECTS, MOST_SLOTS};
 use expr_grammar::is_too_large;
 use fc_base::{SlotId, TextValue};
 use std::alloc::{AllocError, Global};
-
-/// The most objects of a document.
-const MOST_OBJECTS: u32 = 4096;
-
-/// The most slots of a document.
-const MOST_SLOTS: u32 = 65_536;
-
-/// The most nodes of all expressions of a document.
-const MOST_NODES: u32 = 262_144;
-
-/// The most dependencies of all slots of a document.
-const MOST_DEPENDENCIES: u64 = 4_194_304;
 
 /// Whether the document passes a limit other than that of one expression.
 fn has_too_many(tables: &Tables) -> bool
     ensures { result ≡ has_too_many tables.now.document }
 {
-    tables.holds_var_sets();
+    tables.holds_var_sets(); // for the proof
     let objects = tables.object_count() > MOST_OBJECTS;
     let slots = tables.slot_count() > MOST_SLOTS;
     let nodes = tables.node_count() > MOST_NODES;
@@ -54,7 +44,7 @@ fn has_too_large(alloc: Global, tables: &Tables, listed: &[SlotId]) -> Result<bo
     requires { AreNumbersOf tables.now listed.now (slots tables.now.document) }
     ensures { IfOk result (λ large. large ≡ has_too_large tables.now.document) }
 {
-    tables.holds_var_sets();
+    tables.holds_var_sets(); // for the proof
     for slot in listed {
         if has_large_tree(alloc, tables, *slot)? {
             return Ok(true);
@@ -63,15 +53,15 @@ fn has_too_large(alloc: Global, tables: &Tables, listed: &[SlotId]) -> Result<bo
     Ok(false)
 }
 
-/// Whether the document is too large: more objects, slots, nodes or dependencies than a document
-/// may have, or an expression that is too large.
+/// TooMany, where the document has more objects, slots, nodes or dependencies than a document may
+/// have, or an expression that is too large.
 pub fn check_limits(alloc: Global, tables: &Tables, listed: &[SlotId]) -> Result<(), CheckFault>
     requires { AreNumbersOf tables.now listed.now (slots tables.now.document) }
     ensures { MeetsFault (limit_faults tables.now.document) result }
 {
     if has_too_many(tables) || has_too_large(alloc, tables, listed).map_err(CheckFault::Memory)? {
         return Err(CheckFault::Doc(DocFault {
-            number: 29,
+            number: TOO_MANY,
             subject: TextValue::of(String::new(alloc)),
         }));
     }

@@ -8,6 +8,7 @@ ghost use Rattle.doc_rules.specs.Found.{MeetsFault};
 ghost use Rattle.doc_rules.specs.KindFaults.{fault_at, unknown_fault};
 
 use crate::fault::CheckFault;
+use crate::numbers::UNKNOWN_REFERENCE;
 use crate::subjects::slot_fault;
 use doc_tables::Tables;
 use fc_base::SlotId;
@@ -29,24 +30,24 @@ fn has_unknown_reference(alloc: Global, tables: &Tables, slot: SlotId) -> Result
     Ok(has_none(&references))
 }
 
-/// Whether all references of a slot's expression name slots.
+/// UnknownReference, where a reference of the slot's expression names no slot.
 fn check_references_of(alloc: Global, tables: &Tables, slot: SlotId) -> Result<(), CheckFault>
     requires { IsSome (slot_at tables.now slot.0) }
     ensures { MeetsFault (fault_at tables.now (unknown_fault tables.now.document) slot) result }
 {
     if has_unknown_reference(alloc, tables, slot).map_err(CheckFault::Memory)? {
-        return Err(slot_fault(alloc, tables, 12, slot));
+        return Err(slot_fault(alloc, tables, UNKNOWN_REFERENCE, slot));
     }
     Ok(())
 }
 
-/// Whether all references of all expressions name slots.
+/// UnknownReference of the first slot whose expression has a reference that names no slot.
 pub fn check_references(alloc: Global, tables: &Tables, listed: &[SlotId]) -> Result<(), CheckFault>
     requires { AreNumbersOf tables.now listed.now (slots tables.now.document) }
     ensures { MeetsFault (reference_faults tables.now.document) result }
 {
-    tables.holds_var_sets();
-    tables.finds_all();
+    tables.holds_var_sets(); // for the proof
+    tables.finds_all(); // for the proof
     for slot in listed {
         check_references_of(alloc, tables, *slot)?;
     }

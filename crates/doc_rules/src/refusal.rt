@@ -1,11 +1,12 @@
-ghost use Rattle.std.specs.Prelude.{◌≡◌, ◌++◌, [], IfOk, IsTrue, OnOk, decimal};
+ghost use Rattle.std.specs.Prelude.{◌≡◌, [], IfOk, IsTrue, Some, unwrap_or};
 ghost use Rattle.std.specs.Option.{option_map_or};
 ghost use Rattle.doc_rules.specs.Commanded.{refused};
 ghost use Rattle.doc_rules.specs.Refusals.{behind_space, is_refusal_number, place_text, refusal_name, refusal_text};
 
+use crate::numbers;
 use fc_base::TextValue;
-use itoa::Buffer;
 use std::alloc::{AllocError, Global};
+use std::fmt;
 
 /// Why a command was refused: its number, what it is about, and the place of a fault in an
 /// expression.
@@ -16,52 +17,43 @@ pub struct Refusal {
     pub place: Option<u64>,
 }
 
-/// Adds a number in decimal.
-fn push_number(number: u64, text: &mut Vec<u8>) -> Result<(), AllocError>
-    ensures { OnOk result (text.new.items ≡ text.old.items ++ decimal number) }
-{
-    let mut buffer = Buffer::new();
-    text.extend_from_slice(buffer.format(number).as_bytes())
-}
-
-/// The name of a refusal by its number.
-fn name_of(number: u8) -> &'static str
-    requires { IsTrue (is_refusal_number number) }
+/// The name of a refusal by its number; empty where no refusal has the number.
+pub fn name_of(number: u8) -> &'static str
     ensures { result.now ≡ refusal_name number }
 {
     match number {
-        1 => "Syntax",
-        2 => "NoObject",
-        3 => "NoProperty",
-        4 => "NameTaken",
-        5 => "BadName",
-        6 => "LabelTaken",
-        7 => "BadLabel",
-        8 => "ReadOnly",
-        9 => "WrongType",
-        10 => "OutOfRange",
-        11 => "ExprSyntax",
-        12 => "UnknownReference",
-        13 => "NotDynamic",
-        14 => "Cycle",
-        15 => "UnitMismatch",
-        16 => "KindMismatch",
-        17 => "ExponentRange",
-        18 => "NotOverridden",
-        19 => "SheetEdge",
-        20 => "CellTaken",
-        21 => "BadAlias",
-        22 => "AliasTaken",
-        23 => "LinkKind",
-        24 => "TransactionOpen",
-        25 => "NoTransaction",
-        26 => "NothingToUndo",
-        27 => "NothingToRedo",
-        28 => "NotRecomputed",
-        29 => "TooMany",
-        30 => "NoFeature",
-        99 => "NotBuilt",
-        _ => unreachable!(),
+        numbers::SYNTAX => "Syntax",
+        numbers::NO_OBJECT => "NoObject",
+        numbers::NO_PROPERTY => "NoProperty",
+        numbers::NAME_TAKEN => "NameTaken",
+        numbers::BAD_NAME => "BadName",
+        numbers::LABEL_TAKEN => "LabelTaken",
+        numbers::BAD_LABEL => "BadLabel",
+        numbers::READ_ONLY => "ReadOnly",
+        numbers::WRONG_TYPE => "WrongType",
+        numbers::OUT_OF_RANGE => "OutOfRange",
+        numbers::EXPR_SYNTAX => "ExprSyntax",
+        numbers::UNKNOWN_REFERENCE => "UnknownReference",
+        numbers::NOT_DYNAMIC => "NotDynamic",
+        numbers::CYCLE => "Cycle",
+        numbers::UNIT_MISMATCH => "UnitMismatch",
+        numbers::KIND_MISMATCH => "KindMismatch",
+        numbers::EXPONENT_RANGE => "ExponentRange",
+        numbers::NOT_OVERRIDDEN => "NotOverridden",
+        numbers::SHEET_EDGE => "SheetEdge",
+        numbers::CELL_TAKEN => "CellTaken",
+        numbers::BAD_ALIAS => "BadAlias",
+        numbers::ALIAS_TAKEN => "AliasTaken",
+        numbers::LINK_KIND => "LinkKind",
+        numbers::TRANSACTION_OPEN => "TransactionOpen",
+        numbers::NO_TRANSACTION => "NoTransaction",
+        numbers::NOTHING_TO_UNDO => "NothingToUndo",
+        numbers::NOTHING_TO_REDO => "NothingToRedo",
+        numbers::NOT_RECOMPUTED => "NotRecomputed",
+        numbers::TOO_MANY => "TooMany",
+        numbers::NO_FEATURE => "NoFeature",
+        numbers::NOT_BUILT => "NotBuilt",
+        _ => "",
     }
 }
 
@@ -83,37 +75,60 @@ impl Refusal {
         requires { IsTrue (is_refusal_number self.now.number) }
         ensures { IfOk result (λ text. text.items ≡ refusal_text self.now) }
     {
-        let mut text = Vec::from_slice(alloc, b"refused ")?;
-        push_number(u64::from(self.number), &mut text)?;
-        text.push(b' ')?;
-        text.extend_from_slice(name_of(self.number).as_bytes())?;
-        self.push_subject(&mut text)?;
-        self.push_place(&mut text)?;
-        Ok(text)
+        Ok(self.to_string(alloc)?.into_bytes())
     }
 
-    /// Adds the subject behind a space, if there is one that is not empty.
-    fn push_subject(&self, text: &mut Vec<u8>) -> Result<(), AllocError>
-        ensures { OnOk result (text.new.items ≡ text.old.items ++ option_map_or behind_space self.now.subject []) }
+    /// The text of the subject; empty where there is none.
+    fn subject_text(&self) -> &str
+        ensures { result.now ≡ unwrap_or self.now.subject [] }
     {
-        if let Some(subject) = &self.subject {
-            let bytes = subject.as_str().as_bytes();
-            if !bytes.is_empty() {
-                text.push(b' ')?;
-                text.extend_from_slice(bytes)?;
-            }
+        match &self.subject {
+            Some(subject) => subject.as_str(),
+            None => "",
         }
-        Ok(())
     }
+}
 
-    /// Adds the place, if there is one.
-    fn push_place(&self, text: &mut Vec<u8>) -> Result<(), AllocError>
-        ensures { OnOk result (text.new.items ≡ text.old.items ++ option_map_or place_text self.now.place []) }
-    {
-        if let Some(place) = self.place {
-            text.extend_from_slice(b" at ")?;
-            push_number(place, text)?;
+/// A space and a subject, or nothing where it is empty.
+#[derive(Drop)]
+pub struct SubjectText<'a>(pub &'a str);
+
+impl fmt::Display for SubjectText<'_> {
+    ghost output = { λ s. Some (behind_space s.0.now) };
+
+    fn fmt<W: fmt::Write>(&self, f: &mut fmt::Formatter<W>) -> fmt::Result {
+        let subject = self.0;
+        if subject.is_empty() {
+            return Ok(());
         }
-        Ok(())
+        write!(f, " {subject}")
+    }
+}
+
+/// A place, where there is one.
+#[derive(Drop)]
+struct PlaceText(Option<u64>);
+
+impl fmt::Display for PlaceText {
+    ghost output = { λ p. Some (option_map_or place_text p.0 []) };
+
+    fn fmt<W: fmt::Write>(&self, f: &mut fmt::Formatter<W>) -> fmt::Result {
+        match self.0 {
+            Some(place) => write!(f, " at {place}"),
+            None => Ok(()),
+        }
+    }
+}
+
+/// The text of its reply.
+impl fmt::Display for Refusal {
+    ghost output = { λ r. Some (refusal_text r) };
+
+    fn fmt<W: fmt::Write>(&self, f: &mut fmt::Formatter<W>) -> fmt::Result {
+        let number = self.number;
+        let name = name_of(number);
+        let subject = SubjectText(self.subject_text());
+        let place = PlaceText(self.place);
+        write!(f, "refused {number} {name}{subject}{place}")
     }
 }

@@ -5,6 +5,7 @@ ghost use Rattle.document_outcomes.specs.Faults.{number_of_cause};
 ghost use Rattle.document_outcomes.specs.Sorts.{given_sort, number_given};
 ghost use Rattle.doc_rules.specs.SortTables.{given_as, own_as, wanted_as};
 
+use crate::numbers::{EXPONENT_RANGE, KIND_MISMATCH, UNIT_MISMATCH};
 use expr_eval::{SortCause, SortOutcome};
 use property_types::{Sort, Value};
 use unit_signatures::Unit;
@@ -14,9 +15,9 @@ pub fn number_of_cause(cause: SortCause) -> u8
     ensures { result ≡ number_of_cause cause }
 {
     match cause {
-        SortCause::UnitMismatch => 15,
-        SortCause::KindMismatch => 16,
-        SortCause::ExponentRange => 17,
+        SortCause::UnitMismatch => UNIT_MISMATCH,
+        SortCause::KindMismatch => KIND_MISMATCH,
+        SortCause::ExponentRange => EXPONENT_RANGE,
     }
 }
 

@@ -28,7 +28,7 @@ pub fn wanted_sort(tables: &Tables, slot: SlotId) -> Option<Sort>
     requires { IsSome (slot_at tables.now slot.0) }
     ensures { result ≡ option_map sort_of_type (option_and_then (type_of tables.now.document) (slot_at tables.now slot.0)) }
 {
-    tables.holds_var_sets();
+    tables.holds_var_sets(); // for the proof
     tables.type_of(slot).map(|prop| prop.sort())
 }
 
@@ -47,8 +47,8 @@ fn sort_of_tree(
         (sort_reading tables.now.document o tree.now (sort_by_number tables.now sorts.now)) 0 tree.now)
         (object_behind tables.now slot.0) ≡ Some found) }
 {
-    tables.is_numbered();
-    tables.holds_var_sets();
+    tables.is_numbered(); // for the proof
+    tables.holds_var_sets(); // for the proof
     let references = tables.references_of(alloc, slot)?;
     let env = SortsBehind {
         references: &references,
@@ -95,7 +95,7 @@ fn numbers_in_use(
     requires { AreNumbersOf tables.now listed.now (slots tables.now.document) }
     ensures { IfOk result (λ marks. MarksNumbers tables.now marks.items) }
 {
-    tables.is_numbered();
+    tables.is_numbered(); // for the proof
     let mut marks = vec![in alloc; false; tables.slot_limit() as usize]?;
     for slot in listed {
         marks[slot.0 as usize] = true;
@@ -103,7 +103,7 @@ fn numbers_in_use(
     Ok(marks)
 }
 
-/// The sorts of all slots by their numbers, worked out behind those on which they depend.
+/// The sorts of all slots by their numbers, each worked out after those on which it depends.
 fn sorts_in_order(
     alloc: Global,
     tables: &Tables,
@@ -114,7 +114,7 @@ fn sorts_in_order(
     requires order { OrdersNumbers tables.now order.now }
     ensures { IfOk result (λ sorts. AreSorts tables.now sorts.items) }
 {
-    tables.is_numbered();
+    tables.is_numbered(); // for the proof
     let mut sorts = vec![in alloc; Err(SortCause::KindMismatch); marks.len()]?;
     for number in order {
         if marks[*number as usize] {
@@ -125,7 +125,7 @@ fn sorts_in_order(
     Ok(sorts)
 }
 
-/// Whether a slot has a sort.
+/// The cause why the slot has no sort, where it has none.
 fn check_sort(
     alloc: Global,
     tables: &Tables,
@@ -142,7 +142,7 @@ fn check_sort(
     }
 }
 
-/// Whether all slots have sorts.
+/// The cause why a slot has no sort, of the first slot that has none.
 fn check_each_sort(
     alloc: Global,
     tables: &Tables,
@@ -159,8 +159,8 @@ fn check_each_sort(
     Ok(())
 }
 
-/// Whether all slots have sorts, worked out in an order in which each slot stands behind those on
-/// which it depends.
+/// The cause why a slot has no sort, of the first slot that has none. The sorts are worked out in an
+/// order in which each slot stands after those on which it depends.
 pub fn check_sorts(
     alloc: Global,
     tables: &Tables,

@@ -7,6 +7,7 @@ ghost use Rattle.doc_rules.specs.Found.{MeetsFault};
 ghost use Rattle.doc_rules.specs.KindFaults.{fault_at, has_value_outside, range_fault};
 
 use crate::fault::CheckFault;
+use crate::numbers::OUT_OF_RANGE;
 use crate::subjects::slot_fault;
 use doc_tables::Tables;
 use fc_base::SlotId;
@@ -18,7 +19,7 @@ fn has_value_outside(alloc: Global, tables: &Tables, slot: SlotId) -> Result<boo
     requires { IsSome (slot_at tables.now slot.0) }
     ensures { IfOk result (λ outside. option_map (has_value_outside tables.now.document) (slot_at tables.now slot.0) ≡ Some outside) }
 {
-    tables.holds_var_sets();
+    tables.holds_var_sets(); // for the proof
     let Some(prop) = tables.type_of(slot) else {
         return Ok(false);
     };
@@ -32,18 +33,18 @@ fn has_value_outside(alloc: Global, tables: &Tables, slot: SlotId) -> Result<boo
     }
 }
 
-/// Whether the own value of a slot is inside its type, if it has one.
+/// OutOfRange, where the slot has an own value that is outside its type.
 fn check_value(alloc: Global, tables: &Tables, slot: SlotId) -> Result<(), CheckFault>
     requires { IsSome (slot_at tables.now slot.0) }
     ensures { MeetsFault (fault_at tables.now (range_fault tables.now.document) slot) result }
 {
     if has_value_outside(alloc, tables, slot).map_err(CheckFault::Memory)? {
-        return Err(slot_fault(alloc, tables, 10, slot));
+        return Err(slot_fault(alloc, tables, OUT_OF_RANGE, slot));
     }
     Ok(())
 }
 
-/// Whether all own values are inside the types of their slots.
+/// OutOfRange of the first slot whose own value is outside its type.
 pub fn check_values(alloc: Global, tables: &Tables, listed: &[SlotId]) -> Result<(), CheckFault>
     requires { AreNumbersOf tables.now listed.now (slots tables.now.document) }
     ensures { MeetsFault (range_faults tables.now.document) result }

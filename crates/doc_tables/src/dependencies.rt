@@ -80,7 +80,7 @@ impl Tables {
         requires { IsSome (slot_at self.now slot.0) }
         ensures { IfOk result (λ v. AreNumbersOf self.now v.items (deps_at self.now slot.0)) }
     {
-        let _ = &self.objects;
+        let _ = &self.objects; // for the proof
         let found = self.references_of(alloc, slot)?;
         present(alloc, &found)
     }

@@ -7,6 +7,6 @@ impl Tables {
     pub fn finds_all(&self)
         ensures { FindsAll self.now.document }
     {
-        let _ = &self.objects;
+        let _ = &self.objects; // for the proof
     }
 }

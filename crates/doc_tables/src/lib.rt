@@ -7,6 +7,7 @@ mod dependencies;
 mod entry;
 mod finds_all;
 mod insertion;
+pub mod limits;
 mod objects;
 mod rule;
 mod slots;

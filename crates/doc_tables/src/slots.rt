@@ -142,7 +142,7 @@ impl Tables {
     {
         let place = self.places[slot.0 as usize];
         let (_, object) = self.objects.get_index(place.object).unwrap();
-        let (_, _) = object.properties.get_index(place.property).unwrap();
+        let (_, _) = object.properties.get_index(place.property).unwrap(); // for the proof
         ObjectId(place.object as u32)
     }
 

@@ -6,6 +6,7 @@ pub mod Slots
 pub mod Resolution
 pub mod Dependencies
 pub mod Counts
+pub mod Limits
 pub mod Edited
 pub mod Contents
 pub mod WellFormed

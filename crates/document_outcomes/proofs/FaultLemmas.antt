@@ -17,6 +17,7 @@ use Rattle.document_outcomes.specs.Cycles.{is_cyclic, leads_back, HasNoCycle}
 use Rattle.document_outcomes.specs.Faults.{object_fault, slot_fault, limit_faults, label_faults, has_taken_label, link_faults, lacks_bounds, reference_fault, reference_faults, lacks_object, is_mirrored, stray_override, is_unknown, has_unknown, cycle_faults, sort_fault, sort_faults, is_outside, range_faults, fault_within_limits, first_fault, IsValid}
 use Rattle.document_outcomes.specs.Limits.{has_too_many, has_too_large}
 use Rattle.document_outcomes.specs.NoFault.{HasNoFault}
+use Rattle.document_outcomes.specs.RefusalNumbers.{label_taken, out_of_range, unknown_reference, cycle, link_kind, too_many}
 use Rattle.document_outcomes.specs.Sorts.{sort}
 use Rattle.document_outcomes.proofs.SearchLemmas.{or_none, none_or, map_none, none_map, cond_none, or_false, find-none, none-find, any-false, false-any, first_some-none, none-first_some}
 
@@ -78,45 +79,45 @@ module _ (d : Document) where
   pub valid-no_fault : IsValid d → HasNoFault d
   valid-no_fault valid =
       let k = valid-kinds d valid in
-      let limits = or_false (has_too_many d) (has_too_large d) (cond_none (has_too_many d || has_too_large d) (record { number = 29; subject = [] }) k.limits) in
-      let link = find-none (λ (o : Object). leads_back d o || list_any (lacks_bounds d) o.members) d.objects (map_none (object_fault 23) (find (λ (o : Object). leads_back d o || list_any (lacks_bounds d) o.members) d.objects) k.links) in
+      let limits = or_false (has_too_many d) (has_too_large d) (cond_none (has_too_many d || has_too_large d) (record { number = too_many; subject = [] }) k.limits) in
+      let link = find-none (λ (o : Object). leads_back d o || list_any (lacks_bounds d) o.members) d.objects (map_none (object_fault link_kind) (find (λ (o : Object). leads_back d o || list_any (lacks_bounds d) o.members) d.objects) k.links) in
       let each_link : (o : Object) → IsIn o d.objects → (leads_back d o ≡ false) × (list_any (lacks_bounds d) o.members ≡ false) = λ o i. or_false (leads_back d o) (list_any (lacks_bounds d) o.members) (link o i) in
       let part = λ (o : Object) (i : IsIn o d.objects).
-      or_none (cond (lacks_object d o) (Some (object_fault 12 o)) None)
-      (option_or (option_map (λ (e : SlotName × Content). slot_fault 12 (slot_of o e.0)) (stray_override d o))
-      (option_map (λ (r : Row). slot_fault 12 (slot_of o r.name)) (find (λ (r : Row). has_unknown d o r.rule) (rows d o))))
+      or_none (cond (lacks_object d o) (Some (object_fault unknown_reference o)) None)
+      (option_or (option_map (λ (e : SlotName × Content). slot_fault unknown_reference (slot_of o e.0)) (stray_override d o))
+      (option_map (λ (r : Row). slot_fault unknown_reference (slot_of o r.name)) (find (λ (r : Row). has_unknown d o r.rule) (rows d o))))
       (first_some-none (reference_fault d) d.objects k.references o i) in
       let rest = λ (o : Object) (i : IsIn o d.objects).
-      or_none (option_map (λ (e : SlotName × Content). slot_fault 12 (slot_of o e.0)) (stray_override d o))
-      (option_map (λ (r : Row). slot_fault 12 (slot_of o r.name)) (find (λ (r : Row). has_unknown d o r.rule) (rows d o)))
+      or_none (option_map (λ (e : SlotName × Content). slot_fault unknown_reference (slot_of o e.0)) (stray_override d o))
+      (option_map (λ (r : Row). slot_fault unknown_reference (slot_of o r.name)) (find (λ (r : Row). has_unknown d o r.rule) (rows d o)))
       (part o i).1 in
       record {
         counts = limits.0;
         sizes = limits.1;
-        labels = find-none (has_taken_label d) d.objects (map_none (object_fault 6) (find (has_taken_label d) d.objects) k.labels);
+        labels = find-none (has_taken_label d) d.objects (map_none (object_fault label_taken) (find (has_taken_label d) d.objects) k.labels);
         links = λ o i. (each_link o i).0;
         members = λ o i name j. any-false (lacks_bounds d) o.members (each_link o i).1 name j;
-        objects = λ o i. cond_none (lacks_object d o) (object_fault 12 o) (part o i).0;
+        objects = λ o i. cond_none (lacks_object d o) (object_fault unknown_reference o) (part o i).0;
         overrides = λ o i e j.
             not_false (is_mirrored d o e.0)
             (find-none (λ (q : SlotName × Content). not (is_mirrored d o q.0)) o.overrides
-            (map_none (λ (q : SlotName × Content). slot_fault 12 (slot_of o q.0)) (stray_override d o) (rest o i).0) e j);
+            (map_none (λ (q : SlotName × Content). slot_fault unknown_reference (slot_of o q.0)) (stray_override d o) (rest o i).0) e j);
         references = λ o i r j e same x h.
             rule-known o r.rule e x
             (find-none (λ (q : Row). has_unknown d o q.rule) (rows d o)
-            (map_none (λ (q : Row). slot_fault 12 (slot_of o q.name)) (find (λ (q : Row). has_unknown d o q.rule) (rows d o)) (rest o i).1) r j) same h;
-        cycles = find-none (is_cyclic d) (slots d) (map_none (slot_fault 14) (find (is_cyclic d) (slots d)) k.cycles);
+            (map_none (λ (q : Row). slot_fault unknown_reference (slot_of o q.name)) (find (λ (q : Row). has_unknown d o q.rule) (rows d o)) (rest o i).1) r j) same h;
+        cycles = find-none (is_cyclic d) (slots d) (map_none (slot_fault cycle) (find (is_cyclic d) (slots d)) k.cycles);
         sorts = λ s i. has_sort s (sort d s) (first_some-none (λ (t : Slot). sort_fault t (sort d t)) (slots d) k.sorts s i);
         values =
             find-none (λ (s : Slot). is_outside (type_of d s) (rule_of d s)) (slots d)
-            (map_none (slot_fault 10) (find (λ (s : Slot). is_outside (type_of d s) (rule_of d s)) (slots d)) k.ranges);
+            (map_none (slot_fault out_of_range) (find (λ (s : Slot). is_outside (type_of d s) (rule_of d s)) (slots d)) k.ranges);
       }
 
   module _ (h : HasNoFault d) where
     no_reference_fault : (o : Object) → IsIn o d.objects → reference_fault d o ≡ None
     no_reference_fault o i =
         rw (h.objects o i)
-        (none_or (option_map (λ (e : SlotName × Content). slot_fault 12 (slot_of o e.0)) (stray_override d o)) _
+        (none_or (option_map (λ (e : SlotName × Content). slot_fault unknown_reference (slot_of o e.0)) (stray_override d o)) _
         (none_map _ (stray_override d o)
         (none-find (λ (e : SlotName × Content). not (is_mirrored d o e.0)) o.overrides (λ e j. rw (h.overrides o i e j))))
         (none_map _ (find (λ (r : Row). has_unknown d o r.rule) (rows d o))

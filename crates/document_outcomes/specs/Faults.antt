@@ -22,6 +22,7 @@ use Rattle.document_model.specs.TypedSlots.{mirrored_slots}
 use Rattle.document_model.specs.WellFormed.{is_sheet}
 use Rattle.document_outcomes.specs.Cycles.{is_cyclic, leads_back}
 use Rattle.document_outcomes.specs.Limits.{has_too_many, has_too_large}
+use Rattle.document_outcomes.specs.RefusalNumbers.{label_taken, out_of_range, unknown_reference, cycle, unit_mismatch, kind_mismatch, exponent_range, link_kind, too_many}
 use Rattle.document_outcomes.specs.Sorts.{sort}
 
 -- A fault of a document: its number, and what has it.
@@ -43,7 +44,7 @@ first_some f (x ∷ xs) = option_or (f x) (first_some f xs)
 
 -- 29: the document passes a limit
 abbrev pub limit_faults : Document → Option Fault
-limit_faults d = if has_too_many d || has_too_large d then Some (record { number = 29; subject = [] }) else None
+limit_faults d = if has_too_many d || has_too_large d then Some (record { number = too_many; subject = [] }) else None
 
 -- an object whose label an earlier one has
 abbrev pub has_taken_label : Document → Object → Bool
@@ -51,7 +52,7 @@ has_taken_label d o = option_map_or (λ (first : Object). not (same_text first.n
 
 -- 6: a label that an earlier object has
 abbrev pub label_faults : Document → Option Fault
-label_faults d = option_map (object_fault 6) (find (has_taken_label d) d.objects)
+label_faults d = option_map (object_fault label_taken) (find (has_taken_label d) d.objects)
 
 -- an object that is there and has no bounds
 abbrev pub lacks_bounds : Document → List ℕ → Bool
@@ -59,7 +60,7 @@ lacks_bounds d name = option_map_or (λ (m : Object). not (has_bounds d m)) (obj
 
 -- 23: a link whose targets lead back to it, or a compound with a member that has no bounds
 abbrev pub link_faults : Document → Option Fault
-link_faults d = option_map (object_fault 23) (find (λ (o : Object). leads_back d o || list_any (lacks_bounds d) o.members) d.objects)
+link_faults d = option_map (object_fault link_kind) (find (λ (o : Object). leads_back d o || list_any (lacks_bounds d) o.members) d.objects)
 
 -- no object has the name
 abbrev pub is_missing : Document → List ℕ → Bool
@@ -94,9 +95,9 @@ has_unknown d o (output k) = false
 -- 12 in one object: the object itself, then an override, then a slot
 abbrev pub reference_fault : Document → Object → Option Fault
 reference_fault d o =
-    option_or (if lacks_object d o then Some (object_fault 12 o) else None)
-    (option_or (option_map (λ (e : SlotName × Content). slot_fault 12 (slot_of o e.0)) (stray_override d o))
-    (option_map (λ (r : Row). slot_fault 12 (slot_of o r.name)) (find (λ (r : Row). has_unknown d o r.rule) (rows d o))))
+    option_or (if lacks_object d o then Some (object_fault unknown_reference o) else None)
+    (option_or (option_map (λ (e : SlotName × Content). slot_fault unknown_reference (slot_of o e.0)) (stray_override d o))
+    (option_map (λ (r : Row). slot_fault unknown_reference (slot_of o r.name)) (find (λ (r : Row). has_unknown d o r.rule) (rows d o))))
 
 -- 12: a reference to something that is not there
 abbrev pub reference_faults : Document → Option Fault
@@ -104,13 +105,13 @@ reference_faults d = first_some (reference_fault d) d.objects
 
 -- 14: a slot that depends on itself
 abbrev pub cycle_faults : Document → Option Fault
-cycle_faults d = option_map (slot_fault 14) (find (is_cyclic d) (slots d))
+cycle_faults d = option_map (slot_fault cycle) (find (is_cyclic d) (slots d))
 
 -- the numbers of the causes why a slot has no sort
 abbrev pub number_of_cause : SortCause → ℕ
-number_of_cause UnitMismatch = 15
-number_of_cause KindMismatch = 16
-number_of_cause ExponentRange = 17
+number_of_cause UnitMismatch = unit_mismatch
+number_of_cause KindMismatch = kind_mismatch
+number_of_cause ExponentRange = exponent_range
 
 abbrev pub sort_fault : Slot → SortOutcome → Option Fault
 sort_fault s (Ok found) = None
@@ -127,7 +128,7 @@ is_outside _ _ = false
 
 -- 10: an own value outside its type
 abbrev pub range_faults : Document → Option Fault
-range_faults d = option_map (slot_fault 10) (find (λ s. is_outside (type_of d s) (rule_of d s)) (slots d))
+range_faults d = option_map (slot_fault out_of_range) (find (λ s. is_outside (type_of d s) (rule_of d s)) (slots d))
 
 -- the first fault of a document within its limits: the kinds in this order, and within a kind the
 -- first in the document

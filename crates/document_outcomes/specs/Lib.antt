@@ -1,6 +1,7 @@
 pub mod Full
 pub mod Sorts
 pub mod Limits
+pub mod RefusalNumbers
 pub mod Cycles
 pub mod Faults
 pub mod NoFault

@@ -1,21 +1,10 @@
--- How large a document may be.
-use Rattle.std.specs.Prelude.{ℕ, Bool, ◌||◌, nat_lt, length}
+-- Documents that are too large.
+use Rattle.std.specs.Prelude.{Bool, ◌||◌, nat_lt, length}
 use Rattle.std.specs.List.{list_any}
 use Rattle.expr_grammar.specs.Large.{is_too_large}
 use Rattle.document_model.specs.Counts.{expressions, slots_and_empty_cells, nodes_of_document, dependencies_of_document}
 use Rattle.document_model.specs.Document.{Document}
-
-abbrev pub most_objects : ℕ
-most_objects = 4096
-
-abbrev pub most_slots : ℕ
-most_slots = 65536
-
-abbrev pub most_nodes : ℕ
-most_nodes = 262144
-
-abbrev pub most_dependencies : ℕ
-most_dependencies = 4194304
+use Rattle.document_model.specs.Limits.{most_objects, most_slots, most_nodes, most_dependencies}
 
 -- an expression of the document is too large
 abbrev pub has_too_large : Document → Bool

@@ -132,7 +132,7 @@ fn item_numbers<E: Env, L>(
     ensures never_less { steps.old ≤ steps.new }
     ensures at_most { steps.new ≤ min (steps.old + argument_nodes (arguments_of arguments.now)) (2 ^ 64 - 1) }
 {
-    steps.is_bounded();
+    steps.is_bounded(); // for the proof
     let mut items = Vec::new(alloc);
     let mut next = first;
     for argument in arguments {

@@ -23,7 +23,7 @@ pub type SortOutcome = Result<Sort, SortCause>;
 #[derive(Debug, Drop, Error)]
 pub enum SortFault {
     /// The expression has none.
-    #[error("the expression has no sort")]
+    #[error("the expression has no sort: {0}")]
     Cause(SortCause),
     #[error("out of memory")]
     Memory(AllocError),

@@ -11,6 +11,7 @@ use Rattle.document_model.specs.Document.{Document}
 use Rattle.document_model.specs.Slots.{Rule, rule_of, own, bound, inherit, global, output}
 use Rattle.document_outcomes.specs.Called.{Entry, called, input_lists}
 use Rattle.document_outcomes.specs.Full.{Meanings, full}
+use Rattle.document_outcomes.specs.RefusalNumbers.{not_recomputed, not_built}
 use Rattle.recompute.specs.Kept.{faults_of}
 use Rattle.doc_rules.specs.declared.refusal.Refusal.{Refusal}
 use Rattle.doc_rules.specs.Commanded.{refused, slot_commanded}
@@ -45,7 +46,7 @@ asked s answer = record { state = s; answer = answer }
 
 -- what is worked out of a slot, 28 where there was an edit since the last recompute
 abbrev pub worked_out : Meanings → State → Slot → Result Reply Refusal
-worked_out m s slot = if s.clean then Ok (reply.Value (full m s.now slot)) else Err (refused 28)
+worked_out m s slot = if s.clean then Ok (reply.Value (full m s.now slot)) else Err (refused not_recomputed)
 
 -- the value of a slot by its rule: a value of its own at any time
 abbrev pub value_by_rule : Meanings → State → Slot → Option Rule → Result Reply Refusal
@@ -96,7 +97,7 @@ step m s command.Recompute = recomputed m s
 
 -- a line: one that is no command which is built is refused
 abbrev pub step_by : Meanings → State → Option Command → Stepped
-step_by m s None = asked s (Err (refused 99))
+step_by m s None = asked s (Err (refused not_built))
 step_by m s (Some c) = step m s c
 
 abbrev pub step_line : Meanings → State → List ℕ → Stepped

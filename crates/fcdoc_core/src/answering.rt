@@ -10,6 +10,7 @@ use crate::command::{Command, CommandFault};
 use crate::session::Session;
 use crate::step_fault::StepFault;
 use doc_rules::Refusal;
+use doc_rules::numbers::NOT_BUILT;
 use fc_base::Steps;
 use std::alloc::{AllocError, Global};
 
@@ -46,7 +47,7 @@ pub(crate) fn answer_to<L>(
 {
     let command = match Command::read(alloc, line) {
         Ok(command) => command,
-        Err(CommandFault::NotBuilt) => return refused(alloc, &Refusal::of(99)),
+        Err(CommandFault::NotBuilt) => return refused(alloc, &Refusal::of(NOT_BUILT)),
         Err(CommandFault::Memory(error)) => return Err(error),
     };
     match session.step(&command, steps) {

@@ -11,6 +11,7 @@ ghost use Rattle.fcdoc_core.specs.Stepping.{Answers};
 
 use crate::reply::{ExprText, Reply};
 use crate::step_fault::StepFault;
+use doc_rules::numbers::NOT_RECOMPUTED;
 use doc_rules::{Refusal, slot_commanded};
 use doc_tables::Tables;
 use expr_grammar::print;
@@ -37,7 +38,7 @@ pub(crate) fn value_of(
         return Ok(Reply::Value(Ok(value.copy(alloc)?)));
     }
     if !clean {
-        return Err(StepFault::Refused(Refusal::of(28)));
+        return Err(StepFault::Refused(Refusal::of(NOT_RECOMPUTED)));
     }
     match values.peek(slot) {
         Some(outcome) => Ok(Reply::Value(copy_outcome(alloc, outcome)?)),

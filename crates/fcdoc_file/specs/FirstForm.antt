@@ -7,6 +7,7 @@ use Rattle.property_types.specs.Reserved.{are_distinct}
 use Rattle.property_types.specs.SoundPlans.{is_property_name}
 use Rattle.quantities.specs.Amounts.{IsAmount}
 use Rattle.quantities.specs.Texts.{nine_text}
+use Rattle.document_model.specs.Limits.{most_objects, most_slots}
 
 -- A property and its value, in billionths.
 pub record FirstProperty : Type 0 where
@@ -74,9 +75,9 @@ empty_text = codes "<Document SchemaVersion=\"4\"/>"
 abbrev pub has_own_names : FirstObject → Bool
 has_own_names o = are_distinct (map (λ p. p.name) o.properties) && list_all (λ p. is_property_name p.name) o.properties
 
--- at most 4,096 objects, and at most 65,536 properties in all
+-- no more objects and properties than a document may have
 abbrev pub is_within_limits : List FirstObject → Bool
-is_within_limits objects = nat_le (length objects) 4096 && nat_le (sum_by (λ o. length o.properties) objects) 65536
+is_within_limits objects = nat_le (length objects) most_objects && nat_le (sum_by (λ o. length o.properties) objects) most_slots
 
 -- objects that stand together: no name twice, and within the limits
 abbrev pub stands_together : List FirstObject → Bool

@@ -8,15 +8,10 @@ ghost use Rattle.fcdoc_file.specs.FirstForm.{has_own_names, is_within_limits, st
 ghost use Rattle.fcdoc_file.specs.Rows.{object_of};
 
 use crate::var_set::{FloatProperty, VarSet};
+use doc_tables::limits::{MOST_OBJECTS, MOST_SLOTS};
 use fc_base::Name;
 use indexmap::IndexSet;
 use std::alloc::{AllocError, Global};
-
-/// The most objects of a document.
-const MOST_OBJECTS: usize = 4096;
-
-/// The most properties of a document.
-const MOST_PROPERTIES: usize = 65536;
 
 /// Whether the document keeps the name for itself, so that no property has it.
 fn is_reserved(name: &str) -> bool
@@ -104,14 +99,14 @@ fn are_distinct_objects(alloc: Global, objects: &[VarSet]) -> Result<bool, Alloc
 fn is_within_limits(objects: &[VarSet]) -> bool
     ensures { result ≡ is_within_limits (map object_of objects.now) }
 {
-    let mut left = MOST_PROPERTIES;
+    let mut left = MOST_SLOTS as usize;
     for object in objects {
         if object.properties.len() > left {
             return false;
         }
         left -= object.properties.len();
     }
-    objects.len() <= MOST_OBJECTS
+    objects.len() <= MOST_OBJECTS as usize
 }
 
 /// Whether the objects may stand together: no name twice, and within the limits.

@@ -39,7 +39,7 @@ pub fn work_out<L>(
     ensures never_less { steps.old ≤ steps.new }
     ensures at_most { steps.new ≤ min (steps.old + sum_by (nodes_at tables.now) order.now) (2 ^ 64 - 1) }
 {
-    tables.is_numbered();
+    tables.is_numbered(); // for the proof
     for number in order {
         let outcome = given(alloc, tables, SlotId(*number), outcomes, steps)?;
         outcomes[*number as usize] = Some(outcome);

@@ -36,7 +36,7 @@ pub fn fault_count(
 ) -> Result<u64, AllocError>
     ensures { IfOk result (λ count. count ≡ count_by (λ s. is_err (kept_for tables.now outcomes.now s)) (slots tables.now.document)) }
 {
-    tables.is_numbered();
+    tables.is_numbered(); // for the proof
     let slots = tables.slots_in_order(alloc)?;
     Ok(faults_among(outcomes, &slots))
 }

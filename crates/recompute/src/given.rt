@@ -33,8 +33,8 @@ fn given_by_tree<L>(
     ensures never_less { steps.old ≤ steps.new }
     ensures at_most { steps.new ≤ min (steps.old + node_count tree.now) (2 ^ 64 - 1) }
 {
-    tables.is_numbered();
-    tables.holds_var_sets();
+    tables.is_numbered(); // for the proof
+    tables.holds_var_sets(); // for the proof
     let reached = tables.references_of(alloc, slot)?;
     let behind = Behind {
         reached: &reached,
@@ -61,8 +61,8 @@ pub fn given<L>(
     ensures never_less { steps.old ≤ steps.new }
     ensures at_most { steps.new ≤ min (steps.old + nodes_at tables.now slot.0) (2 ^ 64 - 1) }
 {
-    tables.is_numbered();
-    tables.holds_var_sets();
+    tables.is_numbered(); // for the proof
+    tables.holds_var_sets(); // for the proof
     match tables.own_value(slot) {
         Some(value) => Ok(Ok(value.copy(alloc)?)),
         None => match tables.expression_of(slot) {

@@ -25,7 +25,7 @@ fn marked(alloc: Global, count: u32, slots: &[SlotId]) -> Result<Vec<bool>, Allo
 fn used_numbers(alloc: Global, tables: &Tables) -> Result<Vec<bool>, AllocError>
     ensures { IfOk result (λ v. TellsUse tables.now v.items) }
 {
-    tables.is_numbered();
+    tables.is_numbered(); // for the proof
     let slots = tables.slots_in_order(alloc)?;
     marked(alloc, tables.slot_limit(), &slots)
 }
@@ -55,8 +55,8 @@ pub fn evaluation_order(alloc: Global, tables: &Tables) -> Result<Vec<u32>, Allo
     requires { IsValid tables.now.document }
     ensures { IfOk result (λ v. OrdersNumbers tables.now v.items) }
 {
-    tables.is_numbered();
-    let _limit = tables.slot_limit();
+    tables.is_numbered(); // for the proof
+    let _ = tables.slot_limit(); // for the proof
     let used = used_numbers(alloc, tables)?;
     let lists = tables.dependency_lists(alloc)?;
     match in_order(alloc, &lists)? {

@@ -53,9 +53,9 @@ fn worked_out<L>(
     ensures never_less { steps.old ≤ steps.new }
     ensures at_most { steps.new ≤ min (steps.old + nodes_of_document tables.now.document) (2 ^ 64 - 1) }
 {
-    tables.is_numbered();
-    tables.holds_var_sets();
-    tables.has_distinct_slots();
+    tables.is_numbered(); // for the proof
+    tables.holds_var_sets(); // for the proof
+    tables.has_distinct_slots(); // for the proof
     let order = evaluation_order(alloc, tables)?;
     let mut outcomes = no_outcomes(alloc, tables.slot_limit())?;
     work_out(alloc, tables, &order, &mut outcomes, steps)?;
@@ -104,10 +104,10 @@ impl Values {
         ensures never_less { steps.old ≤ steps.new }
         ensures at_most { steps.new ≤ min (steps.old + nodes_of_document tables.now.document) (2 ^ 64 - 1) }
     {
-        steps.is_bounded();
+        steps.is_bounded(); // for the proof
         let alloc = *self.outcomes.allocator();
-        tables.is_numbered();
-        tables.holds_var_sets();
+        tables.is_numbered(); // for the proof
+        tables.holds_var_sets(); // for the proof
         let outcomes = worked_out(alloc, tables, steps)?;
         let faults = fault_count(alloc, tables, &outcomes)?;
         self.outcomes = outcomes;

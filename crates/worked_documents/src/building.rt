@@ -76,7 +76,7 @@ fn add_slot(
     if tables.slot_limit() == u32::MAX {
         return Err(Fail::new("too many slots"));
     }
-    tables.holds_var_sets();
+    tables.holds_var_sets(); // for the proof
     tables.add_property(object, name, prop)?;
     Ok(())
 }

@@ -3,7 +3,7 @@ use Rattle.document_model.specs.Edited.{with_content}
 use Rattle.expr_grammar.specs.Parse.{closed_expression_in}
 use Rattle.doc_rules.specs.Edits.{accepted, value_read}
 use Rattle.doc_rules.proofs.EditLemmas.{becomes-valued}
-use Rattle.doc_rules.proofs.editing.set.Goals as goal
+use Rattle.doc_rules.proofs.editing.with_value.Goals as goal
 
 pub returns : goal.returns
 returns c = λ s at.
