@@ -1,4 +1,13 @@
-//! Public calls that the program does not make, tried on worked values.
+//! Public calls that the program does not make, and runs over devices in memory, tried on rows that
+//! were worked out by hand.
+//!
+//! - `evaluation`: sorts, outcomes and steps of expressions (`expr_eval`).
+//! - `grammar`: trees of expressions, their references, copies and renamings (`expr_grammar`).
+//! - `runs`: whole runs, where a device fails or memory ends (`fcdoc_core`).
+//! - `tokens`: tokens and faults of XML, and what values of attributes mean (`fcxml_profile`).
+//!
+//! The rows of the crates at the base stand in `worked_rows`, those of documents in
+//! `worked_documents`.
 #![tactic(auto)]
 
 #[cfg(test)]
