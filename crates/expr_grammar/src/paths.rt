@@ -2,29 +2,12 @@ ghost use Rattle.std.specs.Prelude.{◌≡◌, ◌<◌, ◌≤◌, length, OnOk}
 ghost use Rattle.expr_grammar.specs.Descent as d;
 ghost use Rattle.expr_grammar.specs.Reading.{Gives};
 ghost use Rattle.expr_tokens.specs.declared.sign.Sign.TheVariants as sign;
-ghost use Rattle.object_paths.specs.PathParts.{component_of};
 
 use crate::no_tree::NoTree;
 use crate::parser::Parser;
 use expr_tokens::{Sign, Token};
 use fc_base::Name;
 use object_paths::{Component, Owner, Path, SlotName};
-
-/// The component whose last two names these are.
-fn component(group: &Name, part: &Name) -> Option<Component>
-    ensures { result ≡ component_of group.now part.now }
-{
-    match group.as_str() {
-        "Base" => match part.as_str() {
-            "x" => Some(Component::X),
-            "y" => Some(Component::Y),
-            "z" => Some(Component::Z),
-            _ => None,
-        },
-        "Rotation" if part.as_str() == "Turn" => Some(Component::Turn),
-        _ => None,
-    }
-}
 
 impl Parser<'_> {
     /// The last name of a component of the group.
@@ -33,7 +16,7 @@ impl Parser<'_> {
         ensures shorter { OnOk result (length self.new.tokens.now < length self.old.tokens.now) }
     {
         let part = self.name()?;
-        match component(group, &part) {
+        match Component::named(group.as_str(), part.as_str()) {
             Some(component) => Ok(component),
             None => Err(NoTree::Syntax),
         }
@@ -142,7 +125,7 @@ impl Parser<'_> {
                 slot: SlotName::Component(second, part),
             });
         }
-        match component(&second, &third) {
+        match Component::named(second.as_str(), third.as_str()) {
             Some(part) => Ok(Path {
                 owner: Owner::Here,
                 slot: SlotName::Component(first, part),

@@ -1,3 +1,4 @@
+-- Private: only contracts inside this crate cite this.
 -- The parts of a numeral: digits, then perhaps a fraction, then perhaps an exponent.
 use Rattle.std.specs.Prelude.{ℕ, Bool, false, ◌&&◌, List, [], ◌∷◌}
 use Rattle.quantities.specs.Decimals.{are_digits, is_mark, without_sign}

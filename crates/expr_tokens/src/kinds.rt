@@ -88,7 +88,8 @@ fn token(
     }
 }
 
-/// The tokens of the lexemes: each identifier is told apart by its neighbours.
+/// The tokens of the lexemes: each identifier is told apart by its neighbours. The cost grows with
+/// the number of lexemes.
 pub fn tokens(alloc: Global, lexemes: &[Placed]) -> Result<Vec<Token>, AllocError>
     ensures { IfOk result (λ ts. ts.items ≡ tokens_of lexemes.now) }
 {

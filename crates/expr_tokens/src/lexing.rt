@@ -12,7 +12,8 @@ mod word;
 
 use crate::token::{Lexeme, Placed};
 use numeral::numeral;
-use quoted::{opened, quoted};
+use object_paths::opened;
+use quoted::quoted;
 use signs::{sign_at, sign_text};
 use std::alloc::{AllocError, AllocFailed, Global};
 use thiserror::Error;
@@ -82,7 +83,8 @@ fn lexeme(alloc: Global, text: &str) -> Result<Option<(Lexeme, usize)>, AllocErr
 }
 
 /// The lexemes of a text with their places, each the longest that begins at its place, or the first
-/// place where none begins. Spaces and tabs may stand between them.
+/// place where none begins. Spaces and tabs may stand between them. The cost grows with the length of
+/// the text.
 pub fn lexemes(alloc: Global, text: &str) -> Result<Vec<Placed>, LexFault>
     ensures { GivesLexed result (lexed text.now) }
 {

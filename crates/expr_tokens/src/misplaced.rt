@@ -106,7 +106,8 @@ fn open_behind(brackets: usize, token: &Token) -> usize
     }
 }
 
-/// The place of the first of the tokens that is wrong, found by its neighbours, or the end.
+/// The place of the first of the tokens that is wrong, found by its neighbours, or the end. The cost
+/// grows with the number of tokens.
 #[tactic(auto, unfolding(crate::specs::Misplaced::misplaced_from))]
 pub fn first_misplaced(lexemes: &[Placed], tokens: &[Token], end: u64) -> u64
     ensures { result ≡ misplaced (map (λ x. x.place) lexemes.now) tokens.now end }

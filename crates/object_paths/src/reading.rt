@@ -1,11 +1,12 @@
-ghost use Rattle.std.specs.Prelude.{◌≡◌, map, Option, None, Some, IfOk, IsErrOf, MatchOption, option_copied};
+ghost use Rattle.std.specs.Prelude.{◌≡◌, map, Option, None, Some, IfOk, IsErrOf};
 ghost use Rattle.fc_base.specs.Places.{address_of};
 ghost use Rattle.fc_base.specs.Texts.{is_name, is_label};
-ghost use Rattle.object_paths.specs.PathParts.{component_of, marked_slot, single_slot, component_slot, slot_of, owned, named_path, fronted_path, plain_path, until_closing, labelled_slot, labelled_path, opened, path_behind, path_of};
+ghost use Rattle.object_paths.specs.PathParts.{marked_slot, single_slot, component_slot, slot_of, owned, named_path, fronted_path, plain_path, labelled_slot, labelled_path, opened, path_behind, path_of};
 ghost use Rattle.object_paths.specs.Read.{Reads};
 ghost use Rattle.object_paths.specs.declared.slot_name.SlotName.{SlotName as Slot};
 
 use crate::blanks::{parts, trimmed};
+use crate::marks::{opened, until_closing};
 use crate::path::{Owner, Path};
 use crate::slot_name::{Component, SlotName};
 use crate::writing::is_word;
@@ -46,28 +47,6 @@ fn read_marked(text: &str) -> Option<SlotName>
     }
 }
 
-/// The last two parts of a component.
-fn read_component(group: &str, part: &str) -> Option<Component>
-    ensures { result ≡ component_of group.now part.now }
-{
-    if group == "Base" {
-        if part == "x" {
-            return Some(Component::X);
-        }
-        if part == "y" {
-            return Some(Component::Y);
-        }
-        if part == "z" {
-            return Some(Component::Z);
-        }
-        return None;
-    }
-    if group == "Rotation" && part == "Turn" {
-        return Some(Component::Turn);
-    }
-    None
-}
-
 /// Three parts: a component of a placement.
 fn read_component_slot(
     alloc: Global,
@@ -80,7 +59,7 @@ fn read_component_slot(
     match Name::read(alloc, name) {
         Err(NameFault::BadName) => Err(PathFault::BadPath),
         Err(NameFault::Memory(error)) => Err(PathFault::Memory(error)),
-        Ok(name) => match read_component(group, part) {
+        Ok(name) => match Component::named(group, part) {
             Some(component) => Ok(SlotName::Component(name, component)),
             None => Err(PathFault::BadPath),
         },
@@ -153,21 +132,6 @@ fn read_behind_label(alloc: Global, parts: &[&str]) -> Result<SlotName, PathFaul
         [front, rest @ ..] if front.is_empty() => read_slot(alloc, rest),
         _ => Err(PathFault::BadPath),
     }
-}
-
-/// What follows `<<` in front.
-fn opened(text: &str) -> Option<&str>
-    ensures { option_copied result ≡ opened text.now }
-{
-    text.strip_prefix("<<")
-}
-
-/// The text up to the first `>>`, and what follows it.
-fn until_closing(text: &str) -> Option<(&str, &str)>
-    ensures { MatchOption result (until_closing text.now ≡ None)
-        (λ r. until_closing text.now ≡ Some (r.0.now, r.1.now)) }
-{
-    text.split_once(">>")
 }
 
 /// A path with that label in front.

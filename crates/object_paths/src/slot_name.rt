@@ -1,4 +1,5 @@
 ghost use Rattle.std.specs.Prelude.{◌≡◌, IfOk};
+ghost use Rattle.object_paths.specs.PathParts.{component_of};
 
 use fc_base::{Address, Name};
 use std::alloc::{AllocError, Global};
@@ -11,6 +12,24 @@ pub enum Component {
     Y,
     Z,
     Turn,
+}
+
+impl Component {
+    /// The component whose last two names these are: `Base` and `x`, or `Rotation` and `Turn`.
+    pub fn named(group: &str, part: &str) -> Option<Component>
+        ensures { result ≡ component_of group.now part.now }
+    {
+        match group {
+            "Base" => match part {
+                "x" => Some(Component::X),
+                "y" => Some(Component::Y),
+                "z" => Some(Component::Z),
+                _ => None,
+            },
+            "Rotation" if part == "Turn" => Some(Component::Turn),
+            _ => None,
+        }
+    }
 }
 
 /// The name of a slot in its object: a property or an alias, `Width`; a component of a placement,
