@@ -7,7 +7,7 @@ use expr_tree::Expr;
 use std::alloc::{AllocError, Global};
 
 /// Whether the printed form of an expression has more than 512 tokens, or more than 32 round
-/// brackets open at once.
+/// brackets open at once. It is printed and cut into tokens for that.
 pub fn is_too_large(alloc: Global, tree: &Expr) -> Result<bool, AllocError>
     ensures { IfOk result (λ b. b ≡ is_too_large tree.now) }
 {

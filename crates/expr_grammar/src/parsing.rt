@@ -56,7 +56,8 @@ pub(crate) fn tree_of(
 ///
 /// Lexical comes where at some place no token begins, TooLarge where there are more than 512 tokens
 /// or more than 32 round brackets open at once, and Syntax where the tokens are no expression, in
-/// this order. Identifiers are XID words (Unicode Standard Annex 31).
+/// this order. Identifiers are XID words (Unicode Standard Annex 31). The cost grows with the length
+/// of the text.
 pub fn parse(alloc: Global, text: &str) -> Result<Expr, ParseFault>
     ensures exact { MeetsParse text.now result }
     ensures found { Tells (expression_in text.now) result }

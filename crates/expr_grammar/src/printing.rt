@@ -1,4 +1,5 @@
 ghost use Rattle.std.specs.Prelude.{◌≡◌, ◌++◌, List, IfOk, OnOk, codes, string_bytes};
+ghost use Rattle.std.specs.Fmt.{signed_decimal};
 ghost use Rattle.fc_base.specs.Places.{address_text};
 ghost use Rattle.quantities.specs.Texts.{decimal_text};
 ghost use Rattle.object_paths.specs.PathTexts.{path_text};
@@ -46,14 +47,21 @@ fn comparison_text(op: CompareOp) -> &'static str
     }
 }
 
-/// Writes an exponent behind `^`, unless it is 1.
+/// Writes `^` and an exponent.
+fn push_raised(exponent: i8, out: &mut String) -> Result<(), AllocError>
+    ensures { OnOk result (string_bytes out.new ≡ string_bytes out.old ++ (codes "^" ++ signed_decimal exponent)) }
+{
+    write!(out, "^{exponent}")
+}
+
+/// Writes `^` and an exponent, unless it is 1.
 fn push_exponent(exponent: i8, out: &mut String) -> Result<(), AllocError>
     ensures { OnOk result (string_bytes out.new ≡ string_bytes out.old ++ exponent_text exponent) }
 {
     if exponent == 1 {
         return Ok(());
     }
-    write!(out, "^{exponent}")
+    push_raised(exponent, out)
 }
 
 /// Writes a sign with a space on both sides.
@@ -262,7 +270,7 @@ fn push_tree(alloc: Global, tree: &Expr, out: &mut String) -> Result<(), AllocEr
         Node::Binary(op, left, right) => push_binary(alloc, *op, left, right, out),
         Node::Power(base, exponent) => {
             push_in_place(alloc, fits_as_base(base), base, out)?;
-            write!(out, "^{exponent}")
+            push_raised(*exponent, out)
         }
         Node::Compare(op, left, right) => push_comparison(alloc, *op, left, right, out),
         Node::Conditional(condition, chosen, other) => {
@@ -282,7 +290,8 @@ fn push_tree(alloc: Global, tree: &Expr, out: &mut String) -> Result<(), AllocEr
 /// The printed form of an expression: binary signs, signs of comparison, `?` and `:` have a space
 /// on both sides, arguments are joined by `; `, and brackets stand only where the tree needs them
 /// and round a literal with a unit under `^`. Where the leaves of the tree can be spelled and the
-/// text is within the limits on tokens and brackets, it is read as the tree again.
+/// text is within the limits on tokens and brackets, it is read as the tree again. The cost grows with
+/// the length of the printed form.
 #[tactic(auto, using(crate::proofs::ReadBack::printed_is_read))]
 pub fn print(alloc: Global, tree: &Expr) -> Result<String, AllocError>
     ensures text { IfOk result (λ text. string_bytes text ≡ printed tree.now) }

@@ -26,7 +26,7 @@ fn copied_unit(alloc: Global, unit: &Option<UnitPower>) -> Result<Option<UnitPow
 }
 
 impl Expr {
-    /// An equal expression.
+    /// An equal expression. The cost grows with the number of nodes.
     pub fn copy(&self, alloc: Global) -> Result<Expr, AllocError>
         ensures { IfOk result (λ e. e ≡ self.now) }
     {

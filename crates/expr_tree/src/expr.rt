@@ -97,7 +97,8 @@ impl Expr {
         })
     }
 
-    /// The number of nodes, the arguments that are areas aside; `u32::MAX` where there are more.
+    /// The number of nodes, the arguments that are areas aside; `u32::MAX` where there are more. It
+    /// goes over all of them.
     pub fn node_count(&self) -> u32
         ensures { result ≡ min (node_count self.now) u32.MAX }
     {

@@ -14,7 +14,7 @@ pub enum Reference<'a> {
     ToArea(&'a Area),
 }
 
-/// Lists the references of the expression behind those so far.
+/// Adds the references of the expression to those so far.
 fn push_references<'a>(tree: &'a Expr, out: &mut Vec<Reference<'a>>) -> Result<(), AllocError>
     ensures { OnOk result (map reference_of out.new.items ≡ map reference_of out.old.items ++ references tree.now) }
 {
@@ -56,7 +56,8 @@ fn push_references<'a>(tree: &'a Expr, out: &mut Vec<Reference<'a>>) -> Result<(
     }
 }
 
-/// The paths and the areas of an expression together, from the left.
+/// The paths and the areas of an expression together, from the left. The cost grows with the number
+/// of nodes.
 pub fn references<'a>(alloc: Global, tree: &'a Expr) -> Result<Vec<Reference<'a>>, AllocError>
     ensures { IfOk result (λ v. map reference_of v.items ≡ references tree.now) }
 {
@@ -65,7 +66,8 @@ pub fn references<'a>(alloc: Global, tree: &'a Expr) -> Result<Vec<Reference<'a>
     Ok(all)
 }
 
-/// How many paths and areas an expression has; `u32::MAX` where there are more.
+/// How many paths and areas an expression has; `u32::MAX` where there are more. It goes over all
+/// nodes.
 pub fn reference_count(tree: &Expr) -> u32
     ensures { result ≡ min (reference_count tree.now) u32.MAX }
 {

@@ -168,7 +168,7 @@ impl Expr {
 
 /// The expression with the listed references replaced, and all else as it was. Each number is that
 /// of one of its references and stands once; a path takes the place of a path, and an area that of
-/// an area.
+/// an area. For each reference the list is searched from its front.
 pub fn map_paths(alloc: Global, tree: &Expr, renaming: &Renaming) -> Result<Expr, AllocError>
     requires { IsRenamingOf renaming.now.pairs.items tree.now }
     ensures { IfOk result (λ e. e ≡ renamed renaming.now.pairs.items tree.now) }
