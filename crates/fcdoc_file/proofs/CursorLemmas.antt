@@ -1,13 +1,6 @@
--- What stands at the front of a text is found there, and what is found stands there.
+-- What is cut off at a quote, and which texts are numerals.
 use Rattle.std.proofs.Common.{◌≡◌, ◌≢◌, ◌<◌, ℕ, Bool, true, false, cond, List, [], ◌∷◌, ◌++◌, length, Option, None, Some, refl, sym, ap, ◌∙◌, subst, arith, eqb, ltb, ◌&&◌, suc, get_or, lit<, ◌^◌, Result, Ok, inl, inr}
-use Rattle.std.specs.Option.{MatchOption}
-use Rattle.std.specs.Borrow.{Bor}
-use Rattle.std.specs.List.{AllByRecursion}
-use Rattle.std.specs.Option.{option_map}
-use Rattle.std.specs.Str.Pattern.{FindsTextPrefix, StripsPrefix}
 use Rattle.std.proofs.lemmas.Bool.{eqb-true, eq-eqb, ltb-true, lt-ltb}
-use Rattle.std.proofs.lemmas.Bool.Decides.{eqb_tells}
-use Rattle.std.proofs.lemmas.Str.Pattern.{IsSplitOnceResult, split_parts}
 use Rattle.std.specs.Fmt.{decimal}
 use Rattle.std.specs.Str.{bytes_eq}
 use Rattle.std.specs.Str.Parse.{digits_value, ParsesUnsigned}
@@ -15,38 +8,13 @@ use Rattle.std.proofs.lemmas.Fmt.{decimal_is_IsNumeral, parse-decimal}
 use Rattle.std.proofs.lemmas.Option.{cond_some}
 use Rattle.std.proofs.lemmas.Slice.Eq.{bytes_eq-Decides}
 use Rattle.std.specs.Cmp.Derive.{both_true}
-use Rattle.fcdoc_file.specs.Cursor.{after, with_byte, quoted, spells, numeral}
-
--- a literal that stands at the front is found
-pub after-append : (literal rest : List ℕ) → after literal (literal ++ rest) ≡ Some rest
-unfolding after
-after-append [] rest = refl
-after-append (c ∷ cs) rest = rw (eq-eqb c c refl) (after-append cs rest)
-
--- a literal that is found stands at the front
-pub after_some : (literal text rest : List ℕ) → after literal text ≡ Some rest → text ≡ literal ++ rest
-unfolding after
-after_some [] text rest e = cc
-after_some (c ∷ cs) [] rest e = absurd (cc)
-after_some (c ∷ cs) (b ∷ bs) rest e =
-    elim (eqb c b) as (λ t. eqb c b ≡ t → cond t (after cs bs) None ≡ Some rest → (b ∷ bs) ≡ (c ∷ cs) ++ rest) [
-      | true ↦ λ same found. let tail = after_some cs bs rest found in let head = eqb-true c b same in cc
-      | false ↦ λ other found. absurd (cc)
-    ] refl e
-
--- no quote stands in the text
-abbrev pub HasNoQuote : List ℕ → Type 0
-HasNoQuote text = AllByRecursion (λ b. eqb b 34 ≡ false) text
-
--- the first quote is found behind a text that has none
-pub quoted-append : (front rest : List ℕ) → HasNoQuote front → quoted (front ++ 34 ∷ rest) ≡ Some (front, rest)
-unfolding quoted
-quoted-append [] rest none = refl
-quoted-append (b ∷ bs) rest none = rw (none.0, quoted-append bs rest none.1)
+use Rattle.fcxml_profile.specs.Fronts.{split_at, with_byte}
+use Rattle.fcxml_profile.proofs.FrontLemmas.{IsWithout}
+use Rattle.fcdoc_file.specs.Cursor.{quoted, spells, numeral}
 
 -- what is cut off at the first quote
 abbrev pub CutsAt : List ℕ → List ℕ × List ℕ → Type 0
-CutsAt text cut = (text ≡ cut.0 ++ 34 ∷ cut.1) × HasNoQuote cut.0
+CutsAt text cut = (text ≡ cut.0 ++ 34 ∷ cut.1) × IsWithout 34 cut.0
 
 with_byte_some : (b : ℕ) (bs : List ℕ) (q : Option (List ℕ × List ℕ)) (cut : List ℕ × List ℕ) → eqb b 34 ≡ false
     → ((inner : List ℕ × List ℕ) → q ≡ Some inner → CutsAt bs inner) → with_byte b q ≡ Some cut → CutsAt (b ∷ bs) cut
@@ -57,7 +25,7 @@ with_byte_some b bs (Some q) cut other inner e =
     subst P same (ap (λ l. b ∷ l) (inner q refl).0, (other, (inner q refl).1))
 
 pub quoted_some : (text : List ℕ) (cut : List ℕ × List ℕ) → quoted text ≡ Some cut → CutsAt text cut
-unfolding quoted
+unfolding split_at
 quoted_some [] cut e = absurd (cc)
 quoted_some (b ∷ bs) cut e =
     elim (eqb b 34) as (λ t. eqb b 34 ≡ t → cond t (Some ([], bs)) (with_byte b (quoted bs)) ≡ Some cut → CutsAt (b ∷ bs) cut) [
@@ -67,35 +35,6 @@ quoted_some (b ∷ bs) cut e =
           subst P here (ap (λ c. c ∷ bs) (eqb-true b 34 same), tt)
       | false ↦ λ other found. with_byte_some b bs (quoted bs) cut other (λ inner e'. quoted_some bs inner e') found
     ] refl e
-
--- without a quote nothing is cut off
-pub quoted-none : (text : List ℕ) → HasNoQuote text → quoted text ≡ None
-unfolding quoted
-quoted-none [] none = refl
-quoted-none (b ∷ bs) none = rw (none.0, quoted-none bs none.1)
-
--- what `strip_prefix` answers at a text
-pub after-strips : (literal text : List ℕ) (r : Option (Bor (List ℕ)))
-    → MatchOption r (FindsTextPrefix literal text None) (λ x. StripsPrefix (FindsTextPrefix literal) text x.now)
-    → option_map (λ x. x.now) r ≡ after literal text
-after-strips literal text None lacks =
-    elim (after literal text) as (λ a. after literal text ≡ a → None ≡ a) [
-      | None ↦ λ _. refl
-      | Some rest ↦ λ found. absurd (lacks rest (after_some literal text rest found))
-    ] refl
-after-strips literal text (Some x) found =
-    let stands : text ≡ literal ++ x.now = found.1.1 ∙ ap (λ t. literal ++ t) (sym found.2) in
-    rw stands (sym (after-append literal x.now))
-
-no_quotes : (text : List ℕ) → ((i : ℕ) → i < length text → get_or text i 0 ≢ 34) → HasNoQuote text
-no_quotes [] h = tt
-no_quotes (b ∷ bs) h = (elim (eqb_tells b 34) [ inl p ↦ absurd (h 0 (omega arith) p.1) | inr p ↦ p.0 ], no_quotes bs (λ i below. h (suc i) (omega arith)))
-
--- what `split_once` answers at a quote
-pub quoted-splits : (text : List ℕ) (r : Option (Bor (List ℕ) × Bor (List ℕ))) → IsSplitOnceResult 34 text r
-    → option_map (λ x. (x.0.now, x.1.now)) r ≡ quoted text
-quoted-splits text None cut = sym (quoted-none text (no_quotes text (split_parts 34 text None cut (lit< tt))))
-quoted-splits text (Some x) cut = let parts = split_parts 34 text (Some x) cut (lit< tt) in rw parts.0 (sym (quoted-append x.0.now x.1.now (no_quotes x.0.now parts.1)))
 
 -- ---- numerals
 

@@ -16,11 +16,13 @@ use Rattle.document_model.specs.Document.{Document}
 use Rattle.fcdoc_file.specs.declared.fault.FormFault.{FormFault}
 use Rattle.fcdoc_file.specs.declared.fault.FormFault.TheVariants.{NotBuilt, Memory}
 use Rattle.fcdoc_file.proofs.ReadingLemmas.{Fails}
-use Rattle.fcdoc_file.specs.Cursor.{◌>>=◌, after, quoted, numeral, each, numbers}
+use Rattle.fcxml_profile.specs.Fronts.{◌>>=◌, after, split_at}
+use Rattle.fcxml_profile.proofs.FrontLemmas.{after-append, after_some}
+use Rattle.fcdoc_file.specs.Cursor.{quoted, numeral, each, numbers}
 use Rattle.fcdoc_file.specs.FirstForm.{FirstObject, names_text, object_text, content_text, document_start, first_text, empty_text, has_own_names, is_within_limits, stands_together, IsFirstObject, IsFirstForm}
 use Rattle.fcdoc_file.specs.FirstDocument.{first_document, ReadsFirst}
 use Rattle.fcdoc_file.specs.Reading.{quoted_at, name_at, count_at, known_at, declared_at, names_at, object_at, content_at, first_form_of, document_of}
-use Rattle.fcdoc_file.proofs.CursorLemmas.{after-append, after_some, both_tests}
+use Rattle.fcdoc_file.proofs.CursorLemmas.{both_tests}
 use Rattle.fcdoc_file.proofs.FieldLaws.{then_some, goes, some_is, known_at-append, known_at_some, name_at-append, name_at_some, count_at-append, count_at_some}
 use Rattle.fcdoc_file.proofs.ObjectLaws.{IsCounted, name_of, objects-append, objects_some}
 
@@ -261,7 +263,7 @@ unfolding content_at names_at count_at quoted_at after
 content_at-short = refl
 
 content_at-none : content_at (first_text []) ≡ None
-unfolding content_at names_at count_at quoted_at after quoted numeral
+unfolding content_at names_at count_at quoted_at after split_at numeral
 content_at-none = refl
 
 -- a text with content is none of those without

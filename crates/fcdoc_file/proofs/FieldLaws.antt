@@ -10,9 +10,11 @@ use Rattle.std.proofs.Math.Nat.{mod-lt}
 use Rattle.std.proofs.lemmas.List.Elements.{recursion_from_All}
 use Rattle.fc_base.specs.Texts.{is_name, is_name_byte}
 use Rattle.fc_base.proofs.NameLemmas.{is_name-bytes}
-use Rattle.fcdoc_file.specs.Cursor.{◌>>=◌, after, quoted, numeral}
+use Rattle.fcxml_profile.specs.Fronts.{◌>>=◌, after}
+use Rattle.fcxml_profile.proofs.FrontLemmas.{IsWithout, after-append, after_some, split_at-append}
+use Rattle.fcdoc_file.specs.Cursor.{quoted, numeral}
 use Rattle.fcdoc_file.specs.Reading.{quoted_at, name_at, count_at, known_at}
-use Rattle.fcdoc_file.proofs.CursorLemmas.{HasNoQuote, after-append, after_some, quoted-append, quoted_some, numeral-decimal, numeral_some}
+use Rattle.fcdoc_file.proofs.CursorLemmas.{quoted_some, numeral-decimal, numeral_some}
 
 -- the value of a step that found something
 pub then_some : {A B : Type 0} (o : Option A) (f : A → Option B) (y : B) → (o >>= f) ≡ Some y → (x : A) × (o ≡ Some x) × (f x ≡ Some y)
@@ -28,24 +30,24 @@ some_is x y e = cc
 
 -- ---- texts without quotes
 
-pub no_quote : (text : List ℕ) → list_all (λ c. not (eqb c 34)) text ≡ true → HasNoQuote text
+pub no_quote : (text : List ℕ) → list_all (λ c. not (eqb c 34)) text ≡ true → IsWithout 34 text
 no_quote [] e = tt
 no_quote (c ∷ cs) e =
-    elim (eqb c 34) as (λ t. eqb c 34 ≡ t → (not t && list_all (λ b. not (eqb b 34)) cs) ≡ true → HasNoQuote (c ∷ cs)) [
+    elim (eqb c 34) as (λ t. eqb c 34 ≡ t → (not t && list_all (λ b. not (eqb b 34)) cs) ≡ true → IsWithout 34 (c ∷ cs)) [
       | true ↦ λ _ f. absurd (cc)
       | false ↦ λ other rest. (other, no_quote cs rest)
     ] refl e
 
-no_quote-append : (xs ys : List ℕ) → HasNoQuote xs → HasNoQuote ys → HasNoQuote (xs ++ ys)
+no_quote-append : (xs ys : List ℕ) → IsWithout 34 xs → IsWithout 34 ys → IsWithout 34 (xs ++ ys)
 no_quote-append [] ys h k = k
 no_quote-append (x ∷ xs) ys h k = (h.0, no_quote-append xs ys h.1 k)
 
 digit_no_quote : (d : ℕ) → d < 10 → eqb (48 + d) 34 ≡ false
 digit_no_quote d below = grind (arith, nat_tests)
 
-pub decimal-no_quote : (n : ℕ) → n < 2 ^ 32 → HasNoQuote (decimal n)
+pub decimal-no_quote : (n : ℕ) → n < 2 ^ 32 → IsWithout 34 (decimal n)
 decimal-no_quote n small =
-    decimal_by_steps_wide (λ m ds. HasNoQuote ds) (λ m below. (digit_no_quote m below, tt))
+    decimal_by_steps_wide (λ m ds. IsWithout 34 ds) (λ m below. (digit_no_quote m below, tt))
     (λ m ds above h. no_quote-append ds ((48 + m % 10) ∷ []) h (digit_no_quote (m % 10) (mod-lt m (omega arith)), tt)) n (omega arith)
 
 -- a byte of a name is no quote
@@ -56,11 +58,11 @@ other b e =
       | false ↦ λ _. refl
     ] refl
 
-name_no_quote : (text : List ℕ) → AllByRecursion (λ b. is_name_byte b ≡ true) text → HasNoQuote text
+name_no_quote : (text : List ℕ) → AllByRecursion (λ b. is_name_byte b ≡ true) text → IsWithout 34 text
 name_no_quote [] h = tt
 name_no_quote (b ∷ bs) h = (other b h.0, name_no_quote bs h.1)
 
-pub is_name-no_quote : (text : List ℕ) → is_name text ≡ true → HasNoQuote text
+pub is_name-no_quote : (text : List ℕ) → is_name text ≡ true → IsWithout 34 text
 is_name-no_quote text name = name_no_quote text (recursion_from_All (λ b. is_name_byte b ≡ true) text (is_name-bytes text name))
 
 -- ---- the steps
@@ -77,9 +79,9 @@ known_at_some literal known text rest e =
     after_some literal text opened.0 opened.1
     ∙ ap (λ t. literal ++ t) (after_some known opened.0 closed.0 closed.1 ∙ ap (λ t. known ++ t) (after_some (34 ∷ []) closed.0 rest closed.2))
 
-pub quoted_at-append : (literal front rest : List ℕ) → HasNoQuote front → quoted_at literal (literal ++ (front ++ 34 ∷ rest)) ≡ Some (front, rest)
+pub quoted_at-append : (literal front rest : List ℕ) → IsWithout 34 front → quoted_at literal (literal ++ (front ++ 34 ∷ rest)) ≡ Some (front, rest)
 unfolding quoted_at
-quoted_at-append literal front rest none = rw (after-append literal (front ++ 34 ∷ rest)) (quoted-append front rest none)
+quoted_at-append literal front rest none = rw (after-append literal (front ++ 34 ∷ rest)) (split_at-append 34 front rest none)
 
 pub quoted_at_some : (literal text : List ℕ) (cut : List ℕ × List ℕ) → quoted_at literal text ≡ Some cut → text ≡ literal ++ (cut.0 ++ 34 ∷ cut.1)
 unfolding quoted_at

@@ -7,11 +7,12 @@ use Rattle.std.proofs.lemmas.List.Concat.{flat_map-cons}
 use Rattle.fc_base.specs.Texts.{is_name}
 use Rattle.quantities.specs.Texts.{nine_text}
 use Rattle.quantities.proofs.TextLemmas.{nine_text-no_quote}
-use Rattle.fcdoc_file.specs.Cursor.{after, each, numbers}
+use Rattle.fcxml_profile.specs.Fronts.{after}
+use Rattle.fcxml_profile.proofs.FrontLemmas.{after-append, after_some}
+use Rattle.fcdoc_file.specs.Cursor.{each, numbers}
 use Rattle.fcdoc_file.specs.FirstForm.{FirstProperty, FirstObject, property_text, object_text, IsFirstProperty, IsFirstObject}
 use Rattle.fcdoc_file.specs.Reading.{quoted_at, name_at, count_at, known_at, amount_of, property_at, fixed_at, start_at, object_at}
 use Rattle.fcdoc_file.proofs.AmountLemmas.{amount_of-nine_text, amount_of_some}
-use Rattle.fcdoc_file.proofs.CursorLemmas.{after-append, after_some}
 use Rattle.fcdoc_file.proofs.FieldLaws.{then_some, goes, some_is, no_quote, known_at-append, known_at_some, quoted_at-append, quoted_at_some, name_at-append, name_at_some, count_at-append, count_at_some}
 
 -- the literals

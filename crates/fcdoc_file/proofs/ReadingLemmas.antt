@@ -3,7 +3,8 @@ use Rattle.std.proofs.Common.{◌≡◌, ℕ, suc, ◌+◌, ◌-◌, ◌<◌, Li
 use Rattle.std.specs.Prelude.{⊤}
 use Rattle.fcdoc_file.specs.declared.fault.FormFault.{FormFault}
 use Rattle.fcdoc_file.specs.declared.fault.FormFault.TheVariants.{NotBuilt, Memory}
-use Rattle.fcdoc_file.specs.Cursor.{◌>>=◌, each, numbers}
+use Rattle.fcxml_profile.specs.Fronts.{◌>>=◌}
+use Rattle.fcdoc_file.specs.Cursor.{each, numbers}
 
 -- what was read so far, before what is read next
 abbrev pub with_front : {A : Type 0} → List A → Option (List A × List ℕ) → Option (List A × List ℕ)

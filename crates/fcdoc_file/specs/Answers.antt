@@ -1,3 +1,4 @@
+-- Private: only contracts inside this crate cite this.
 -- What a reading answers, by what there is to read.
 use Rattle.std.specs.Prelude.{◌≡◌, Option, None, Some, Result, Ok, Err, ⊤}
 use Rattle.fc_base.specs.declared.name.NameFault.{NameFault}

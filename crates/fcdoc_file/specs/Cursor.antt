@@ -1,30 +1,13 @@
 -- Reading a text from its front: what stands there, and what follows it.
-use Rattle.std.specs.Prelude.{ℕ, zero, suc, ◌+◌, ◌==◌, if◌then◌else◌, Bool, ◌&&◌, nat_lt, List, [], ◌∷◌, Option, None, Some}
+use Rattle.std.specs.Prelude.{ℕ, zero, suc, ◌+◌, if◌then◌else◌, Bool, ◌&&◌, nat_lt, List, [], ◌∷◌, Option, None, Some}
 use Rattle.std.specs.Str.{bytes_eq}
 use Rattle.std.specs.Fmt.{decimal}
 use Rattle.std.specs.Str.Parse.{digits_value}
-
--- the next step of a reading goes on where this one found something
-infixl 10 ◌>>=◌
-abbrev pub ◌>>=◌ : {A B : Type 0} → Option A → (A → Option B) → Option B
-None >>= f = None
-(Some x) >>= f = f x
-
--- what follows the literal, where the text begins with it
-unfoldable pub after : List ℕ → List ℕ → Option (List ℕ)
-after [] text = Some text
-after (c ∷ cs) [] = None
-after (c ∷ cs) (b ∷ bs) = if c == b then after cs bs else None
-
--- a byte more at the front of what was cut off
-abbrev pub with_byte : ℕ → Option (List ℕ × List ℕ) → Option (List ℕ × List ℕ)
-with_byte b None = None
-with_byte b (Some cut) = Some (b ∷ cut.0, cut.1)
+use Rattle.fcxml_profile.specs.Fronts.{◌>>=◌, split_at}
 
 -- what stands before the first quote, and what follows it
-unfoldable pub quoted : List ℕ → Option (List ℕ × List ℕ)
-quoted [] = None
-quoted (b ∷ bs) = if b == 34 then Some ([], bs) else with_byte b (quoted bs)
+abbrev pub quoted : List ℕ → Option (List ℕ × List ℕ)
+quoted text = split_at 34 text
 
 -- the digits are the one spelling of a number above 0 and below 2 ^ 32
 abbrev pub spells : List ℕ → ℕ → Bool

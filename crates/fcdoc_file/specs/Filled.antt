@@ -1,3 +1,4 @@
+-- Private: only contracts inside this crate cite this.
 -- The tables that objects of the first form make.
 use Rattle.std.specs.Prelude.{ℕ, List, [], ◌∷◌, ◌++◌, length, map, Option, Some}
 use Rattle.std.specs.List.{flat_map}

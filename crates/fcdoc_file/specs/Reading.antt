@@ -4,7 +4,8 @@ use Rattle.std.specs.Option.{option_map}
 use Rattle.std.specs.Str.{bytes_eq}
 use Rattle.std.specs.Fmt.{decimal}
 use Rattle.fc_base.specs.Texts.{is_name}
-use Rattle.fcdoc_file.specs.Cursor.{◌>>=◌, after, quoted, numeral, each, numbers}
+use Rattle.fcxml_profile.specs.Fronts.{◌>>=◌, after}
+use Rattle.fcdoc_file.specs.Cursor.{quoted, numeral, each, numbers}
 use Rattle.document_model.specs.Document.{Document}
 use Rattle.fcdoc_file.specs.FirstDocument.{first_document}
 use Rattle.fcdoc_file.specs.FirstForm.{FirstProperty, FirstObject, first_text, empty_text, stands_together}

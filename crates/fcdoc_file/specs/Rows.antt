@@ -1,3 +1,4 @@
+-- Private: only contracts inside this crate cite this.
 -- What was read, without where it lies in memory.
 use Rattle.std.specs.Prelude.{map}
 use Rattle.fcdoc_file.specs.FirstForm.{FirstProperty, FirstObject}

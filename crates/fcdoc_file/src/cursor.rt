@@ -1,7 +1,8 @@
 //! A text that is read from its front.
 
 ghost use Rattle.std.specs.Prelude.{◌≡◌, option_map};
-ghost use Rattle.fcdoc_file.specs.Cursor.{after, quoted, numeral};
+ghost use Rattle.fcxml_profile.specs.Fronts.{after};
+ghost use Rattle.fcdoc_file.specs.Cursor.{quoted, numeral};
 
 use itoa::Buffer;
 

@@ -3,15 +3,12 @@ ghost use Rattle.fcdoc_file.specs.declared.fault.FormFault.TheVariants.{Memory};
 
 use fc_base::NameFault;
 use std::alloc::{AllocError, AllocFailed};
-use thiserror::Error;
 
 /// Why bytes were not read as a document of the first form.
-#[derive(Debug, Drop, Error)]
+#[derive(Drop)]
 pub(crate) enum FormFault {
     /// They are not the text of a document of the first form.
-    #[error("not a document of the first form")]
     NotBuilt,
-    #[error("out of memory")]
     Memory(AllocError),
 }
 

@@ -3,6 +3,7 @@ ghost use Rattle.fcdoc_file.specs.Causes.{cause_of, load_fault_of};
 
 use fcxml_profile::{XmlCause, XmlFault};
 use std::alloc::AllocError;
+use std::fmt;
 use thiserror::Error;
 
 /// What is wrong with the bytes of a document.
@@ -31,6 +32,13 @@ pub enum LoadCause {
 pub struct LoadFault {
     pub place: u64,
     pub cause: LoadCause,
+}
+
+/// The cause and the place, as `Truncated at 60`.
+impl fmt::Display for LoadFault {
+    fn fmt<W: fmt::Write>(&self, f: &mut fmt::Formatter<W>) -> fmt::Result {
+        write!(f, "{:?} at {}", self.cause, self.place)
+    }
 }
 
 /// The cause of bytes that are not well-formed.
@@ -64,12 +72,13 @@ impl LoadFault {
 /// Why bytes were not read as a document.
 #[derive(Debug, Drop, Error)]
 pub enum LoadError {
-    /// They are not well-formed.
-    #[error("not well-formed: {:?} at {}", .0.cause, .0.place)]
+    /// They are not well-formed: the first fault that a scan from the front finds.
+    #[error("not well-formed: {0}")]
     Load(LoadFault),
     /// They are well-formed, and not the text of a document of the first form.
     #[error("not a document of the first form")]
     NotBuilt,
+    /// No memory was left, which says nothing of the bytes.
     #[error("out of memory")]
     Memory(AllocError),
 }

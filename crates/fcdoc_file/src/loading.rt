@@ -24,8 +24,10 @@ fn refused(alloc: Global, bytes: &[u8]) -> LoadError
 }
 
 /// Reads a document. Of bytes that are not well-formed Load tells what is wrong first, and where.
-/// NotBuilt comes for all others that are not the text of a document of the first form. A text of
-/// the first form is well-formed, so it is not looked over a second time.
+/// NotBuilt comes for all others that are not the text of a document of the first form.
+///
+/// The time grows with the bytes. A text of the first form is well-formed, so it is gone through once;
+/// all others are scanned as XML too.
 pub fn load(alloc: Global, bytes: &[u8]) -> Result<Tables, LoadError>
     ensures exact { Loads (loaded bytes.now) result }
     ensures found { IfOk result (λ t. ReadsFirst bytes.now t.document) }

@@ -7,7 +7,7 @@ ghost use Rattle.property_types.specs.SoundPlans.{is_property_name};
 ghost use Rattle.fcdoc_file.specs.FirstForm.{has_own_names, is_within_limits, stands_together};
 ghost use Rattle.fcdoc_file.specs.Rows.{object_of};
 
-use crate::var_set::{FloatProperty, VarSet};
+use crate::var_set::{FloatProperty, Named, VarSet};
 use doc_tables::limits::{MOST_OBJECTS, MOST_SLOTS};
 use fc_base::Name;
 use indexmap::IndexSet;
@@ -47,13 +47,13 @@ fn have_property_names(properties: &[FloatProperty]) -> bool
         .all(|property| is_property_name(&property.name))
 }
 
-/// Whether no two properties have one name.
-fn are_distinct_properties(alloc: Global, properties: &[FloatProperty]) -> Result<bool, AllocError>
-    ensures { IfOk result (λ answer. answer ≡ are_distinct (map (λ p. p.name) properties.now)) }
+/// Whether no two have one name.
+fn are_distinct<T: Named>(alloc: Global, items: &[T]) -> Result<bool, AllocError>
+    ensures { IfOk result (λ answer. answer ≡ are_distinct (map T.name items.now)) }
 {
     let mut seen = IndexSet::new(alloc);
-    for property in properties {
-        if !seen.insert(property.name.as_str())? {
+    for item in items {
+        if !seen.insert(item.name().as_str())? {
             return Ok(false);
         }
     }
@@ -64,10 +64,7 @@ fn are_distinct_properties(alloc: Global, properties: &[FloatProperty]) -> Resul
 fn has_own_names(alloc: Global, object: &VarSet) -> Result<bool, AllocError>
     ensures { IfOk result (λ answer. answer ≡ has_own_names (object_of object.now)) }
 {
-    Ok(
-        have_property_names(&object.properties)
-            && are_distinct_properties(alloc, &object.properties)?,
-    )
+    Ok(have_property_names(&object.properties) && are_distinct(alloc, &object.properties)?)
 }
 
 /// Whether each object's properties have names of their own.
@@ -76,19 +73,6 @@ fn all_have_own_names(alloc: Global, objects: &[VarSet]) -> Result<bool, AllocEr
 {
     for object in objects {
         if !has_own_names(alloc, object)? {
-            return Ok(false);
-        }
-    }
-    Ok(true)
-}
-
-/// Whether no two objects have one name.
-fn are_distinct_objects(alloc: Global, objects: &[VarSet]) -> Result<bool, AllocError>
-    ensures { IfOk result (λ answer. answer ≡ are_distinct (map (λ o. o.name) objects.now)) }
-{
-    let mut seen = IndexSet::new(alloc);
-    for object in objects {
-        if !seen.insert(object.name.as_str())? {
             return Ok(false);
         }
     }
@@ -115,7 +99,7 @@ pub(crate) fn stand_together(alloc: Global, objects: &[VarSet]) -> Result<bool, 
 {
     Ok(
         is_within_limits(objects)
-            && are_distinct_objects(alloc, objects)?
+            && are_distinct(alloc, objects)?
             && all_have_own_names(alloc, objects)?,
     )
 }

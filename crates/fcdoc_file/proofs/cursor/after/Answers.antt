@@ -1,4 +1,4 @@
-use Rattle.fcdoc_file.proofs.CursorLemmas.{after-strips}
+use Rattle.fcxml_profile.proofs.FrontLemmas.{after-strips}
 use Rattle.fcdoc_file.proofs.cursor.after.Goals as goal
 
 pub returns : goal.returns

@@ -1,5 +1,6 @@
-use Rattle.fcdoc_file.proofs.CursorLemmas.{quoted-splits}
+use Rattle.std.proofs.Common.{lit<}
+use Rattle.fcxml_profile.proofs.FrontLemmas.{split_at-splits}
 use Rattle.fcdoc_file.proofs.cursor.quoted.Goals as goal
 
 pub returns : goal.returns
-returns c = quoted-splits c.args.text.now c.split_once.result c.split_once.ensures.cases
+returns c = split_at-splits 34 c.args.text.now c.split_once.result (lit< tt) c.split_once.ensures.cases
