@@ -99,6 +99,25 @@ fn fits_numbers(rt: HostRuntime) -> Result<(), Fail> {
     Ok(())
 }
 
+/// Whether a type takes a value as it is.
+fn is_taken_as_it_is(alloc: Global, prop: &PropType, value: &Value) -> Result<bool, Fail> {
+    if *prop == PropType::Placement {
+        return Err(Fail::new("a placement"));
+    }
+    match prop.fit(alloc, value) {
+        Ok(fitted) => Ok(fitted == *value),
+        Err(_) => Err(Fail::new("not fitted")),
+    }
+}
+
+#[test]
+fn fits_texts_and_flags(rt: HostRuntime) -> Result<(), Fail> {
+    let text = Value::Text(TextValue::read(rt.alloc(), "a text")?);
+    assert!(rt; is_taken_as_it_is(rt.alloc(), &PropType::String, &text)?);
+    assert!(rt; is_taken_as_it_is(rt.alloc(), &PropType::Bool, &Value::Flag(true))?);
+    Ok(())
+}
+
 /// Whether a type has this name, and numbers of this unit.
 fn is_named(name: &str, unit: &str) -> Result<bool, Fail> {
     let prop = type_of(name)?;
