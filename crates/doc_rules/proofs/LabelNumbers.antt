@@ -89,8 +89,8 @@ module _ (t : Numbered) where
         | Some o ↦ λ e h. absurd (cc)
       ] refl told
 
-  abbrev taken : List ℕ → Option Fault
-  taken q = Some (record { number = label_taken; subject = q })
+  abbrev label_fault_of : List ℕ → Option Fault
+  label_fault_of q = Some (record { number = label_taken; subject = q })
 
   -- a label that is taken is told with the name of its object
   pub taken-told :
@@ -107,7 +107,7 @@ module _ (t : Numbered) where
             let name_same : o.name ≡ name = cc in
             ap (option_and_then (label_fault t.document)) found
             ∙ ap (λ (b : Bool). cond b (Some (object_fault label_taken o)) None) yes
-            ∙ ap taken name_same ∙ same
+            ∙ ap label_fault_of name_same ∙ same
 
   module _ (numbered : IsNumbered t) where
     same_name-same_number : (m n : ℕ) (a b : List ℕ) → name_at t m ≡ Some a → name_at t n ≡ Some b → a ≡ b → m ≡ n

@@ -1,12 +1,11 @@
 ghost use Rattle.std.specs.Prelude.{◌≡◌};
 ghost use Rattle.property_types.specs.Sorts.{sort_of_value};
-ghost use Rattle.expr_eval.specs.SortRows.{one_sort, one_unit};
 ghost use Rattle.document_outcomes.specs.Faults.{number_of_cause};
 ghost use Rattle.document_outcomes.specs.Sorts.{given_sort, number_given};
 ghost use Rattle.doc_rules.specs.SortTables.{given_as, own_as, wanted_as};
 
 use crate::numbers::{EXPONENT_RANGE, KIND_MISMATCH, UNIT_MISMATCH};
-use expr_eval::{SortCause, SortOutcome};
+use expr_eval::{SortCause, SortOutcome, one_sort};
 use property_types::{Sort, Value};
 use unit_signatures::Unit;
 
@@ -29,37 +28,6 @@ fn sort_of_value(value: &Value) -> Sort
         Value::Number(number) => Sort::Number(number.unit),
         Value::Flag(_) => Sort::Flag,
         Value::Text(_) => Sort::Text,
-    }
-}
-
-/// Numbers of one unit.
-fn one_unit(left: Unit, right: Unit) -> SortOutcome
-    ensures { result ≡ one_unit left right }
-{
-    if left == right {
-        Ok(Sort::Number(left))
-    } else {
-        Err(SortCause::UnitMismatch)
-    }
-}
-
-/// Two of one sort.
-fn one_sort(left: Sort, right: Sort) -> SortOutcome
-    ensures { result ≡ one_sort left right }
-{
-    match left {
-        Sort::Number(unit) => match right {
-            Sort::Number(other) => one_unit(unit, other),
-            _ => Err(SortCause::KindMismatch),
-        },
-        Sort::Flag => match right {
-            Sort::Flag => Ok(Sort::Flag),
-            _ => Err(SortCause::KindMismatch),
-        },
-        Sort::Text => match right {
-            Sort::Text => Ok(Sort::Text),
-            _ => Err(SortCause::KindMismatch),
-        },
     }
 }
 

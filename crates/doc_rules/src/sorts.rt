@@ -20,7 +20,7 @@ use doc_tables::Tables;
 use expr_eval::{SortCause, SortFault, SortOutcome, sort_of};
 use expr_tree::Expr;
 use fc_base::SlotId;
-use property_types::{Sort, ValueFault};
+use property_types::Sort;
 use std::alloc::{AllocError, Global};
 
 /// The sort of the type of a slot; none for a cell.
@@ -53,7 +53,6 @@ fn sort_of_tree(
     let env = SortsBehind {
         references: &references,
         sorts,
-        outcome: Err(ValueFault::Range),
     };
     match sort_of(alloc, tree, &env) {
         Ok(sort) => Ok(Ok(sort)),

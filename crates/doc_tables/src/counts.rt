@@ -61,7 +61,7 @@ impl Tables {
         self.places.len() as u32
     }
 
-    /// The number of nodes of all expressions; `u32::MAX` where there are more.
+    /// The number of nodes of all expressions; `u32::MAX` where there are more. Each node is visited.
     pub fn node_count(&self) -> u32
         ensures { result ≡ min (nodes_of_document self.now.document) u32.MAX }
     {
@@ -158,7 +158,7 @@ impl Tables {
     }
 
     /// The number of dependencies of all slots, each counted as often as it stands; `u64::MAX` where
-    /// there are more.
+    /// there are more. Each reference of the document is resolved.
     pub fn dependency_count(&self) -> u64
         ensures { result ≡ min (dependencies_of_document self.now.document) u64.MAX }
     {

@@ -57,6 +57,7 @@ impl Tables {
 
     /// What the paths of a slot's expression name, from the left: the number of a slot each, or none
     /// where a path names no slot, and for an area. There are none where the rule is no expression.
+    /// Each is resolved anew.
     pub fn references_of(
         &self,
         alloc: Global,

@@ -1,4 +1,13 @@
 //! A document as tables: objects and properties by name, slots by number.
+//!
+//! `Tables` holds a document of VarSets. It answers by name (`object_named`, `resolve`), by label
+//! (`object_labelled`), by place (`object_at`, `slot_at`) and by number (`own_value`, `expression_of`,
+//! `deps_of`, `dependency_lists`), and is changed by three primitives (`add_object`, `add_property`,
+//! `set_rule`). Numbers of objects and slots stay as long as what they name. `limits` has how large a
+//! document may be. What a document means, and which documents are refused, is not known here.
+//!
+//! `docs/definitions.md` tells of `Numbered`, as which tables are seen. Rows are tried in
+//! `worked_documents/src/answers.rt`.
 #![tactic(auto)]
 
 mod changes;

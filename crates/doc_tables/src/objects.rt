@@ -94,7 +94,8 @@ impl Tables {
         entry_at(&self.objects, place)
     }
 
-    /// The slot that a path of an object names; none exactly where it names none.
+    /// The slot that a path of an object names; none exactly where it names none. An owner is looked up
+    /// by its name; for an owner by its label the objects are looked through from the first.
     pub fn resolve(&self, owner: ObjectId, path: &Path) -> Option<SlotId>
         requires { IsSome (name_at self.now owner.0) }
         ensures { IsNumberOf self.now result
@@ -119,7 +120,8 @@ impl Tables {
         }
     }
 
-    /// The first object of that name; none exactly where there is none.
+    /// The first object of that name; none exactly where there is none. The objects are looked through
+    /// from the first.
     pub fn object_named(&self, name: &str) -> Option<ObjectId>
         ensures { IsNumberOfObject self.now result (object_named self.now.document name.now) }
     {
@@ -127,7 +129,8 @@ impl Tables {
         number_of_place(place)
     }
 
-    /// The first object of that label; none exactly where there is none.
+    /// The first object of that label; none exactly where there is none. The objects are looked through
+    /// from the first.
     pub fn object_labelled(&self, label: &str) -> Option<ObjectId>
         ensures { IsNumberOfObject self.now result (object_labelled self.now.document label.now) }
     {

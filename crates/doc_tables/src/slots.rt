@@ -146,7 +146,7 @@ impl Tables {
         ObjectId(place.object as u32)
     }
 
-    /// All slots, in the order of the document.
+    /// All slots, in the order of the document. Each is visited.
     pub fn slots_in_order(&self, alloc: Global) -> Result<Vec<SlotId>, AllocError>
         ensures { IfOk result (λ v. AreNumbersOf self.now v.items (slots self.now.document)) }
     {
@@ -167,7 +167,8 @@ impl Tables {
         String::from_str(alloc, path.as_str())
     }
 
-    /// The slot at a place of the document, from 0; none exactly past the last.
+    /// The slot at a place of the document, from 0; none exactly past the last. The objects are counted
+    /// from the first; for all slots ask `slots_in_order`.
     pub fn slot_at(&self, place: u32) -> Option<SlotId>
         ensures { IsNumberOf self.now result (slice_get (slots self.now.document) place) }
     {

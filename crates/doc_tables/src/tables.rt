@@ -84,7 +84,7 @@ impl Tables {
         }
     }
 
-    /// Equal tables, with the same numbers.
+    /// Equal tables, with the same numbers. This costs as much as the document is large.
     pub fn copy(&self, alloc: Global) -> Result<Tables, AllocError>
         ensures { IfOk result (λ tables. tables ≡ self.now) }
     {

@@ -1,6 +1,6 @@
 -- The factors of the table of units are amounts.
 use Rattle.std.proofs.Common.{◌≡◌, ℕ, ℤ, Bool, true, false, cond, ◌&&◌, nat_le, nat_eq, List, [], ◌∷◌, Some, refl, subst, unsigned_abs}
-use borrow.Author.Tests.{leb-true}
+use Rattle.std.proofs.lemmas.Bool.{leb-true}
 use Rattle.std.specs.List.{list_all}
 use Rattle.std.specs.Cmp.Lexicographic.{pointwise}
 use Rattle.unit_signatures.specs.Table.{Row, look_up, unit_table, unit_named}

@@ -11,7 +11,7 @@ ghost use Rattle.expr_eval.specs.Outcomes.{items_by, outcome_of};
 use crate::aggregates::aggregate_outcome;
 use crate::all_of::all_of;
 use crate::comparison::compared;
-use crate::env::Env;
+use crate::env::OutcomeEnv;
 use crate::numbers::{
     Numeric, binary_outcome, function_outcome, into_flag, into_number, literal_outcome, negated,
     number_of, power_outcome, unit_outcome,
@@ -23,8 +23,10 @@ use std::alloc::{AllocError, Global};
 
 /// The outcome of an expression with fewer than 2^32 references, for what stands behind them: the
 /// first fault from the left, or the value. Of a conditional only the arm that is chosen counts.
-/// Each node that is visited is one step: at least one, and at most as many as there are nodes.
-pub fn evaluate<E: Env, L>(
+/// Each node that is visited is one step: at least one, and at most as many as there are nodes. At a
+/// node with two operands the references of the left one are counted, so a deep tree costs its nodes
+/// times its depth.
+pub fn evaluate<E: OutcomeEnv, L>(
     alloc: Global,
     tree: &Expr,
     env: &E,
@@ -40,7 +42,7 @@ pub fn evaluate<E: Env, L>(
 
 /// The outcome of a tree whose first reference is the `first` one of the expression.
 #[cycle(evaluation)]
-fn evaluate_from<E: Env, L>(
+fn evaluate_from<E: OutcomeEnv, L>(
     alloc: Global,
     tree: &Expr,
     env: &E,
@@ -58,7 +60,7 @@ fn evaluate_from<E: Env, L>(
         Node::UnitOne(name) => Ok(unit_outcome(name)),
         Node::Flag(flag) => Ok(Ok(Value::Flag(*flag))),
         Node::Text(text) => Ok(Ok(Value::Text(text.copy(alloc)?))),
-        Node::Path(_) => copy_outcome(alloc, env.outcome_at(first)),
+        Node::Path(_) => copy_outcome(alloc, env.path_outcome(first)),
         Node::Negate(a) => Ok(negated(number(alloc, a, env, first, steps)?)),
         Node::Binary(op, a, b) => {
             let left = number(alloc, a, env, first, steps)?;
@@ -101,7 +103,7 @@ fn evaluate_from<E: Env, L>(
 
 /// The number that a tree gives whose first reference is the `first` one of the expression.
 #[cycle(evaluation)]
-fn number<E: Env, L>(
+fn number<E: OutcomeEnv, L>(
     alloc: Global,
     tree: &Expr,
     env: &E,
@@ -120,7 +122,7 @@ fn number<E: Env, L>(
 /// The numbers that the items of arguments give, whose first reference is the `first` one of the
 /// expression.
 #[cycle(evaluation)]
-fn item_numbers<E: Env, L>(
+fn item_numbers<E: OutcomeEnv, L>(
     alloc: Global,
     arguments: &[Argument],
     env: &E,
@@ -151,11 +153,11 @@ fn item_numbers<E: Env, L>(
 }
 
 /// Adds the numbers of an area's filled cells.
-fn push_cells<E: Env>(env: &E, area: u32, items: &mut Vec<Numeric>) -> Result<(), AllocError>
+fn push_cells<E: OutcomeEnv>(env: &E, area: u32, items: &mut Vec<Numeric>) -> Result<(), AllocError>
     ensures { OnOk result (items.new.items ≡ items.old.items ++ map (number_of OutOfType) ((E.reading env.now).inside area)) }
 {
-    for cell in env.area_at(area) {
-        items.push(number_of(env.outcome_of_cell(*cell)))?;
+    for cell in env.area_cells(area) {
+        items.push(number_of(env.cell_outcome(*cell)))?;
     }
     Ok(())
 }

@@ -33,7 +33,7 @@ fn one_unit(left: Unit, right: Unit) -> SortOutcome
 }
 
 /// Two of one sort.
-fn one_sort(left: Sort, right: Sort) -> SortOutcome
+pub fn one_sort(left: Sort, right: Sort) -> SortOutcome
     ensures { result ≡ one_sort left right }
 {
     match left {

@@ -6,7 +6,7 @@ ghost use Rattle.expr_eval.specs.SortRows.{aggregate_sort};
 ghost use Rattle.expr_eval.specs.Sorts.{HasSort, item_sorts, sort_of};
 
 use crate::all_of::all_of;
-use crate::env::Env;
+use crate::env::SortEnv;
 use crate::sort_cause::{SortCause, SortFault, SortOutcome};
 use crate::sort_rows::{
     aggregate_sort, binary_sort, compare_sort, conditional_sort, literal_sort, number_sort,
@@ -18,8 +18,8 @@ use std::alloc::{AllocError, Global};
 
 /// The sort of an expression with fewer than 2^32 references, or the first cause from the left why
 /// it has none. The causes of all operands come before those of the operation on them, and there a
-/// wrong kind before a wrong unit.
-pub fn sort_of<E: Env>(alloc: Global, tree: &Expr, env: &E) -> Result<Sort, SortFault>
+/// wrong kind before a wrong unit. It costs as much as `evaluate`.
+pub fn sort_of<E: SortEnv>(alloc: Global, tree: &Expr, env: &E) -> Result<Sort, SortFault>
     requires { reference_count tree.now < 2 ^ 32 }
     ensures { HasSort (sort_of (E.sort_reading env.now) 0 tree.now) result }
 {
@@ -29,7 +29,7 @@ pub fn sort_of<E: Env>(alloc: Global, tree: &Expr, env: &E) -> Result<Sort, Sort
 
 /// The sort of a tree whose first reference is the `first` one of the expression.
 #[cycle(sorts)]
-fn sort_from<E: Env>(
+fn sort_from<E: SortEnv>(
     alloc: Global,
     tree: &Expr,
     env: &E,
@@ -43,7 +43,7 @@ fn sort_from<E: Env>(
         Node::UnitOne(name) => Ok(unit_sort(name)),
         Node::Flag(_) => Ok(Ok(Sort::Flag)),
         Node::Text(_) => Ok(Ok(Sort::Text)),
-        Node::Path(_) => Ok(env.sort_at(first)),
+        Node::Path(_) => Ok(env.path_sort(first)),
         Node::Negate(a) => Ok(number_sort(sort_from(alloc, a, env, first)?)),
         Node::Binary(op, a, b) => {
             let left = sort_from(alloc, a, env, first)?;
@@ -78,7 +78,7 @@ fn sort_from<E: Env>(
 
 /// The sorts of the items of arguments whose first reference is the `first` one of the expression.
 #[cycle(sorts)]
-fn item_sorts<E: Env>(
+fn item_sorts<E: SortEnv>(
     alloc: Global,
     arguments: &[Argument],
     env: &E,
@@ -105,15 +105,15 @@ fn item_sorts<E: Env>(
 }
 
 /// Adds the sorts of an area's filled cells.
-fn push_cell_sorts<E: Env>(
+fn push_cell_sorts<E: SortEnv>(
     env: &E,
     area: u32,
     items: &mut Vec<SortOutcome>,
 ) -> Result<(), AllocError>
     ensures { OnOk result (items.new.items ≡ items.old.items ++ (E.sort_reading env.now).inside area) }
 {
-    for cell in env.area_at(area) {
-        items.push(env.sort_of_cell(*cell))?;
+    for cell in env.area_cells(area) {
+        items.push(env.cell_sort(*cell))?;
     }
     Ok(())
 }

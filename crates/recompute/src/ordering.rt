@@ -56,7 +56,7 @@ pub fn evaluation_order(alloc: Global, tables: &Tables) -> Result<Vec<u32>, Allo
     ensures { IfOk result (λ v. OrdersNumbers tables.now v.items) }
 {
     tables.is_numbered(); // for the proof
-    let _ = tables.slot_limit(); // for the proof
+    let _limit = tables.slot_limit(); // for the proof
     let used = used_numbers(alloc, tables)?;
     let lists = tables.dependency_lists(alloc)?;
     match in_order(alloc, &lists)? {

@@ -79,7 +79,7 @@ impl Values {
         kept_at(&self.outcomes, slot)
     }
 
-    /// Equal outcomes.
+    /// Equal outcomes. Each is copied.
     pub fn copy(&self, alloc: Global) -> Result<Values, AllocError>
         ensures { IfOk result (λ values. values ≡ self.now) }
     {
@@ -88,8 +88,9 @@ impl Values {
         })
     }
 
-    /// Works the outcome of each slot out from nothing: each once, behind those that it depends on. Of
-    /// the outcomes that were there before nothing is left; without memory they all stay.
+    /// Works the outcome of each slot out from nothing: each once, after those that it depends on. Of
+    /// the outcomes that were there before nothing is left; without memory they all stay. It grows with
+    /// the slots, the nodes of their expressions and their dependencies.
     pub fn recompute<L>(
         &mut self,
         tables: &Tables,

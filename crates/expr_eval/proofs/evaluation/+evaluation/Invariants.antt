@@ -14,8 +14,8 @@ invariant-item_numbers-loop-argument g l = record {
       l.next + argument_reference_count (arguments_of (drop l.argument-index l.arguments))
       ≡ l.initial.next + argument_reference_count (arguments_of l.arguments);
   listed :
-      l.items.items ++ items_by OutOfType (g.E.Env.reading l.env) l.next (arguments_of (drop l.argument-index l.arguments))
-      ≡ items_by OutOfType (g.E.Env.reading l.env) l.initial.next (arguments_of l.arguments);
+      l.items.items ++ items_by OutOfType (g.E.OutcomeEnv.reading l.env) l.next (arguments_of (drop l.argument-index l.arguments))
+      ≡ items_by OutOfType (g.E.OutcomeEnv.reading l.env) l.initial.next (arguments_of l.arguments);
   at_least : l.initial.steps ≤ l.steps;
   at_most :
       l.steps + argument_nodes (arguments_of (drop l.argument-index l.arguments))

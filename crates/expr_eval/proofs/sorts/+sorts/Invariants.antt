@@ -13,8 +13,8 @@ invariant-item_sorts-loop-argument g l = record {
       l.next + argument_reference_count (arguments_of (drop l.argument-index l.arguments))
       ≡ l.initial.next + argument_reference_count (arguments_of l.arguments);
   listed :
-      l.items.items ++ item_sorts (g.E.Env.sort_reading l.env) l.next (arguments_of (drop l.argument-index l.arguments))
-      ≡ item_sorts (g.E.Env.sort_reading l.env) l.initial.next (arguments_of l.arguments);
+      l.items.items ++ item_sorts (g.E.SortEnv.sort_reading l.env) l.next (arguments_of (drop l.argument-index l.arguments))
+      ≡ item_sorts (g.E.SortEnv.sort_reading l.env) l.initial.next (arguments_of l.arguments);
   left : argument_nodes (arguments_of (drop l.argument-index l.arguments)) ≤ argument_nodes (arguments_of l.arguments);
 }
 
