@@ -1,30 +1,35 @@
-ghost use Rattle.std.specs.Prelude.{◌≡◌, ◌↔◌, false, IsTrue, IfOk, IsErrOf, string_bytes};
+ghost use Rattle.std.specs.Prelude.{◌≡◌, ◌↔◌, false, nat_eq, Some, refl, IsTrue, IfOk, IsErrOf, string_bytes};
+ghost use Rattle.std.proofs.Common.{rules};
+ghost use Rattle.std.specs.Cmp.{partial_equiv_from_equiv};
+ghost use Rattle.std.specs.Cmp.Lexicographic.{slice_cmp, pointwise, nat_list_eq_equiv, nat_list_cmp_total, texts_po, texts_ties};
+ghost use Rattle.std.specs.Cmp.Rules.{hashing};
+ghost use Rattle.std.specs.Hash as fed;
+ghost use Rattle.std.specs.Ordering.{nat_cmp};
 ghost use Rattle.std.specs.List.{list_any};
 ghost use Rattle.fc_base.specs.Texts.{has_closing_mark, ends_in_mark, is_control, is_label};
 
-use crate::text::Text;
 use std::alloc::{AllocError, Global};
+use std::cmp::Ordering;
+use std::hash::{Hash, Hasher};
 use std::marker::Model;
 use thiserror::Error;
 
 /// A label of an object, which the user changes: 1 to 255 bytes, without `>>`, control characters
 /// or a `>` at the end. It is seen as the list of its bytes.
-#[derive(Debug, Drop, PartialEq, Eq, Hash, PartialOrd, Ord)]
+#[derive(Debug, Drop)]
 pub struct Label {
-    text: Text,
+    text: String,
 }
 
 impl Model for Label {
-    ghost use Rattle.std.specs.Prelude.{List, ℕ, IsTrue};
+    ghost use Rattle.std.specs.Prelude.{List, ℕ, IsTrue, string_bytes};
     ghost use Rattle.fc_base.specs.Texts.{is_label};
 
     ghost Value = { List ℕ };
 
-    ghost view = { λ n. n.text };
+    ghost view = { λ n. string_bytes n.text };
 
-    ghost invariant = { λ n. IsTrue (is_label n.text) };
-
-    ghost inverse = { λ bytes. record { text = bytes } };
+    ghost invariant = { λ n. IsTrue (is_label (string_bytes n.text)) };
 }
 
 /// Why a text was not read as a label.
@@ -82,7 +87,7 @@ impl Label {
         if !Label::is_label(text) {
             return Err(LabelFault::BadLabel);
         }
-        let text = Text::copied(alloc, text).map_err(LabelFault::Memory)?;
+        let text = String::from_str(alloc, text).map_err(LabelFault::Memory)?;
         Ok(Label { text })
     }
 
@@ -91,7 +96,6 @@ impl Label {
         requires { IsTrue (is_label (string_bytes text)) }
         ensures { result ≡ string_bytes text }
     {
-        let text = Text::of(text);
         Label { text }
     }
 
@@ -99,7 +103,7 @@ impl Label {
     pub fn copy(&self, alloc: Global) -> Result<Label, AllocError>
         ensures { IfOk result (λ label. label ≡ self.now) }
     {
-        let text = self.text.copy(alloc)?;
+        let text = String::from_str(alloc, self.text.as_str())?;
         Ok(Label { text })
     }
 
@@ -109,5 +113,53 @@ impl Label {
         ensures label { IsTrue (is_label self.now) }
     {
         self.text.as_str()
+    }
+}
+
+impl PartialEq for Label {
+    ghost eq = { pointwise nat_eq };
+
+    ghost laws = { partial_equiv_from_equiv nat_list_eq_equiv };
+
+    fn eq(&self, other: &Label) -> bool {
+        self.as_str() == other.as_str()
+    }
+}
+
+impl Eq for Label {
+    ghost laws = { nat_list_eq_equiv };
+}
+
+impl Hash for Label {
+    ghost hash_input = { fed.str };
+
+    ghost respects_eq = { Prim.search (hashing, rules) };
+
+    fn hash<H: Hasher>(&self, state: &mut H) {
+        self.as_str().hash(state);
+    }
+}
+
+impl PartialOrd for Label {
+    ghost partial_cmp = { λ a b. Some (slice_cmp nat_cmp a b) };
+
+    ghost laws = { texts_po };
+
+    fn partial_cmp(&self, other: &Label) -> Option<Ordering> {
+        Some(self.cmp(other))
+    }
+}
+
+impl Ord for Label {
+    ghost cmp = { slice_cmp nat_cmp };
+
+    ghost total = { nat_list_cmp_total };
+
+    ghost matches_partial_cmp = { λ a b. refl };
+
+    ghost matches_eq = { texts_ties };
+
+    fn cmp(&self, other: &Label) -> Ordering {
+        self.as_str().cmp(other.as_str())
     }
 }

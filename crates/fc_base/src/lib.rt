@@ -27,7 +27,6 @@ mod readings;
 mod source_bytes;
 mod standard_sink;
 mod steps;
-mod text;
 mod text_value;
 
 pub use address::{Address, Area};

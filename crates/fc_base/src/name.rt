@@ -1,34 +1,39 @@
-ghost use Rattle.std.specs.Prelude.{◌≡◌, ◌↔◌, ◌||◌, ◌==◌, ◌<◌, length, false, IsTrue, IfOk, IsErrOf};
+ghost use Rattle.std.specs.Prelude.{◌≡◌, ◌↔◌, ◌||◌, ◌==◌, ◌<◌, length, false, nat_eq, Some, refl, IsTrue, IfOk, IsErrOf};
+ghost use Rattle.std.proofs.Common.{rules};
+ghost use Rattle.std.specs.Cmp.{partial_equiv_from_equiv};
+ghost use Rattle.std.specs.Cmp.Lexicographic.{slice_cmp, pointwise, nat_list_eq_equiv, nat_list_cmp_total, texts_po, texts_ties};
+ghost use Rattle.std.specs.Cmp.Rules.{hashing};
+ghost use Rattle.std.specs.Hash as fed;
+ghost use Rattle.std.specs.Ordering.{nat_cmp};
 ghost use Rattle.std.specs.List.{list_all, AllPass};
 ghost use Rattle.std.specs.Str.{chars};
 ghost use Rattle.unicode_ident.specs.Ident.{is_xid_continue};
 ghost use Rattle.fc_base.specs.Texts.{begins_name, spells_name, is_name, is_name_byte};
 
 use crate::label::Label;
-use crate::text::Text;
 use crate::text_value::TextValue;
 use std::alloc::{AllocError, Global};
+use std::cmp::Ordering;
+use std::hash::{Hash, Hasher};
 use std::marker::Model;
 use thiserror::Error;
 
 /// A name of an object or a property: 1 to 64 bytes, an XID start character or `_` and then XID
 /// continue characters (Unicode Standard Annex 31). It is seen as the list of its bytes.
-#[derive(Debug, Drop, PartialEq, Eq, Hash, PartialOrd, Ord)]
+#[derive(Debug, Drop)]
 pub struct Name {
-    text: Text,
+    text: String,
 }
 
 impl Model for Name {
-    ghost use Rattle.std.specs.Prelude.{List, ℕ, IsTrue};
+    ghost use Rattle.std.specs.Prelude.{List, ℕ, IsTrue, string_bytes};
     ghost use Rattle.fc_base.specs.Texts.{is_name};
 
     ghost Value = { List ℕ };
 
-    ghost view = { λ n. n.text };
+    ghost view = { λ n. string_bytes n.text };
 
-    ghost invariant = { λ n. IsTrue (is_name n.text) };
-
-    ghost inverse = { λ bytes. record { text = bytes } };
+    ghost invariant = { λ n. IsTrue (is_name (string_bytes n.text)) };
 }
 
 /// Why a text was not read as a name.
@@ -88,7 +93,7 @@ impl Name {
         if !Name::is_name(text) {
             return Err(NameFault::BadName);
         }
-        let text = Text::copied(alloc, text).map_err(NameFault::Memory)?;
+        let text = String::from_str(alloc, text).map_err(NameFault::Memory)?;
         Ok(Name { text })
     }
 
@@ -96,7 +101,7 @@ impl Name {
     pub fn copy(&self, alloc: Global) -> Result<Name, AllocError>
         ensures { IfOk result (λ name. name ≡ self.now) }
     {
-        let text = self.text.copy(alloc)?;
+        let text = String::from_str(alloc, self.text.as_str())?;
         Ok(Name { text })
     }
 
@@ -124,5 +129,53 @@ impl Name {
         ensures name { IsTrue (is_name self.now) }
     {
         self.text.as_str()
+    }
+}
+
+impl PartialEq for Name {
+    ghost eq = { pointwise nat_eq };
+
+    ghost laws = { partial_equiv_from_equiv nat_list_eq_equiv };
+
+    fn eq(&self, other: &Name) -> bool {
+        self.as_str() == other.as_str()
+    }
+}
+
+impl Eq for Name {
+    ghost laws = { nat_list_eq_equiv };
+}
+
+impl Hash for Name {
+    ghost hash_input = { fed.str };
+
+    ghost respects_eq = { Prim.search (hashing, rules) };
+
+    fn hash<H: Hasher>(&self, state: &mut H) {
+        self.as_str().hash(state);
+    }
+}
+
+impl PartialOrd for Name {
+    ghost partial_cmp = { λ a b. Some (slice_cmp nat_cmp a b) };
+
+    ghost laws = { texts_po };
+
+    fn partial_cmp(&self, other: &Name) -> Option<Ordering> {
+        Some(self.cmp(other))
+    }
+}
+
+impl Ord for Name {
+    ghost cmp = { slice_cmp nat_cmp };
+
+    ghost total = { nat_list_cmp_total };
+
+    ghost matches_partial_cmp = { λ a b. refl };
+
+    ghost matches_eq = { texts_ties };
+
+    fn cmp(&self, other: &Name) -> Ordering {
+        self.as_str().cmp(other.as_str())
     }
 }

@@ -1,30 +1,31 @@
-ghost use Rattle.std.specs.Prelude.{◌≡◌, ◌↔◌, ◌<◌, ◌≤◌, length, false, IsTrue, IfOk, IsErrOf, string_bytes};
+ghost use Rattle.std.specs.Prelude.{◌≡◌, ◌↔◌, ◌<◌, ◌≤◌, length, false, nat_eq, Some, refl, IsTrue, IfOk, IsErrOf, string_bytes};
+ghost use Rattle.std.specs.Cmp.{partial_equiv_from_equiv};
+ghost use Rattle.std.specs.Cmp.Lexicographic.{slice_cmp, pointwise, nat_list_eq_equiv, nat_list_cmp_total, texts_po, texts_ties};
+ghost use Rattle.std.specs.Ordering.{nat_cmp};
 ghost use Rattle.std.specs.List.{list_all};
 ghost use Rattle.fc_base.specs.Texts.{is_text_byte, is_text_value};
 
-use crate::text::Text;
 use std::alloc::{AllocError, Global};
+use std::cmp::Ordering;
 use std::marker::Model;
 use thiserror::Error;
 
 /// A text of a String property or a cell: at most 1,024 bytes, no control character but tab, LF
 /// and CR. It is seen as the list of its bytes.
-#[derive(Debug, Drop, PartialEq, Eq, PartialOrd, Ord)]
+#[derive(Debug, Drop)]
 pub struct TextValue {
-    text: Text,
+    text: String,
 }
 
 impl Model for TextValue {
-    ghost use Rattle.std.specs.Prelude.{List, ℕ, IsTrue};
+    ghost use Rattle.std.specs.Prelude.{List, ℕ, IsTrue, string_bytes};
     ghost use Rattle.fc_base.specs.Texts.{is_text_value};
 
     ghost Value = { List ℕ };
 
-    ghost view = { λ n. n.text };
+    ghost view = { λ n. string_bytes n.text };
 
-    ghost invariant = { λ n. IsTrue (is_text_value n.text) };
-
-    ghost inverse = { λ bytes. record { text = bytes } };
+    ghost invariant = { λ n. IsTrue (is_text_value (string_bytes n.text)) };
 }
 
 /// Why a text was not read as a text value.
@@ -76,7 +77,7 @@ impl TextValue {
         if !TextValue::is_text_value(text) {
             return Err(TextFault::BadText);
         }
-        let text = Text::copied(alloc, text).map_err(TextFault::Memory)?;
+        let text = String::from_str(alloc, text).map_err(TextFault::Memory)?;
         Ok(TextValue { text })
     }
 
@@ -87,7 +88,6 @@ impl TextValue {
         requires bytes { IsTrue (list_all is_text_byte (string_bytes text)) }
         ensures { result ≡ string_bytes text }
     {
-        let text = Text::of(text);
         TextValue { text }
     }
 
@@ -95,7 +95,7 @@ impl TextValue {
     pub fn copy(&self, alloc: Global) -> Result<TextValue, AllocError>
         ensures { IfOk result (λ value. value ≡ self.now) }
     {
-        let text = self.text.copy(alloc)?;
+        let text = String::from_str(alloc, self.text.as_str())?;
         Ok(TextValue { text })
     }
 
@@ -105,5 +105,43 @@ impl TextValue {
         ensures value { IsTrue (is_text_value self.now) }
     {
         self.text.as_str()
+    }
+}
+
+impl PartialEq for TextValue {
+    ghost eq = { pointwise nat_eq };
+
+    ghost laws = { partial_equiv_from_equiv nat_list_eq_equiv };
+
+    fn eq(&self, other: &TextValue) -> bool {
+        self.as_str() == other.as_str()
+    }
+}
+
+impl Eq for TextValue {
+    ghost laws = { nat_list_eq_equiv };
+}
+
+impl PartialOrd for TextValue {
+    ghost partial_cmp = { λ a b. Some (slice_cmp nat_cmp a b) };
+
+    ghost laws = { texts_po };
+
+    fn partial_cmp(&self, other: &TextValue) -> Option<Ordering> {
+        Some(self.cmp(other))
+    }
+}
+
+impl Ord for TextValue {
+    ghost cmp = { slice_cmp nat_cmp };
+
+    ghost total = { nat_list_cmp_total };
+
+    ghost matches_partial_cmp = { λ a b. refl };
+
+    ghost matches_eq = { texts_ties };
+
+    fn cmp(&self, other: &TextValue) -> Ordering {
+        self.as_str().cmp(other.as_str())
     }
 }
