@@ -1,4 +1,8 @@
 //! fcdoc: runs a script on a document.
+//!
+//! `run` of `fcdoc_core` does all of it, over the files and standard output. What is done here: the
+//! words are read, and the status is handed over. The forms, statuses and replies are on the page
+//! `docs/commands.md`; whole runs are the cases of `tests/conformance`.
 #![tactic(auto)]
 
 use fc_base::{FileStore, StdSink};
@@ -22,7 +26,7 @@ fn main(rt: HostRuntime) -> ExitCode {
         Ok(words) => words,
         Err(error) => {
             if error.kind() == io::ErrorKind::OutOfMemory {
-                return ExitCode::from(Status::Memory as u8);
+                return ExitCode::from(Status::Memory.exit_code());
             }
             // A word that is no text makes none of the forms of a run, as no words do.
             Vec::new(alloc)
@@ -31,5 +35,5 @@ fn main(rt: HostRuntime) -> ExitCode {
     let mut out = StdSink::new(io::writer(&rt));
     let mut store = FileStore::new(&rt);
     let status = run(alloc, &words, &mut store, &mut out);
-    ExitCode::from(status as u8)
+    ExitCode::from(status.exit_code())
 }

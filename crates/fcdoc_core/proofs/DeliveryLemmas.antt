@@ -5,7 +5,8 @@ use Rattle.fc_base.specs.Devices.{HasCause, HasRisen, device_failed}
 use Rattle.fc_base.specs.declared.faults.DeviceFault.{DeviceFault}
 use Rattle.fc_base.specs.declared.faults.DeviceFault.TheVariants.{Failed, Memory}
 use Rattle.std.proofs.lemmas.List.{take_at, nil_from_length}
-use Rattle.fcdoc_core.specs.Delivery.{GaveLess, Delivers}
+use Rattle.fcdoc_core.specs.Delivery.{GaveLess}
+use Rattle.fcdoc_core.specs.Plans.{Delivers}
 
 pub appends_nothing : (known : Option (List ℕ)) → Appends known known []
 appends_nothing None = tt

@@ -10,12 +10,11 @@ use Rattle.document_outcomes.specs.Typed.{no_features}
 use Rattle.fcdoc_core.proofs.DeliveryLemmas.{appends_nothing}
 use Rattle.fcdoc_core.proofs.HeadlineLemmas.{writes_all}
 use Rattle.fcdoc_core.specs.Delivery.{GaveLess, GaveFront}
-use Rattle.fcdoc_core.specs.Headline.{is_end}
 use Rattle.fcdoc_core.specs.declared.status.Status.{Status}
 use Rattle.fcdoc_core.specs.declared.status.Status.TheVariants.{DocumentRefused, StoreFault, SinkFault, Memory}
-use Rattle.fcdoc_core.specs.declared.opening.OpenFault.{OpenFault}
-use Rattle.fcdoc_core.specs.declared.opening.OpenFault.TheVariants as opening
-use Rattle.fcdoc_core.specs.declared.opening.OpenFault.TheVariants.{NotBuilt, Load, Doc}
+use Rattle.fcdoc_core.specs.declared.open_fault.OpenFault.{OpenFault}
+use Rattle.fcdoc_core.specs.declared.open_fault.OpenFault.TheVariants as opening
+use Rattle.fcdoc_core.specs.declared.open_fault.OpenFault.TheVariants.{NotBuilt, Load, Doc}
 use Rattle.fcdoc_core.specs.declared.plan.Plan.{Plan}
 use Rattle.fcdoc_core.specs.declared.plan.Plan.TheVariants.{DocumentTooLong, ScriptTooLong}
 use Rattle.fcdoc_core.specs.declared.stop.Stop.{Stop}
@@ -24,7 +23,7 @@ use Rattle.fcdoc_core.specs.Machine.{State}
 use Rattle.fcdoc_core.specs.Opening.{Unopened, unloaded, faulty, Opens, opened_of}
 use Rattle.fcdoc_file.specs.Loading.{malformed, not_built}
 use Rattle.fcdoc_core.specs.OpenFaults.{HasLine, open_fault_text}
-use Rattle.fcdoc_core.specs.Plans.{Means, MeansScript, MeansNames, MeansFiles, top_of_plan}
+use Rattle.fcdoc_core.specs.Plans.{Means, MeansScript, MeansNames, MeansFiles, is_end, top_of_plan}
 use Rattle.fcdoc_core.specs.Replies.{unopened_text}
 use Rattle.fcdoc_core.specs.Scripts.{most_bytes, script_of}
 use Rattle.fcdoc_core.specs.Top.{one_piece, text_of, top_of_lines, top_of_state, missing}

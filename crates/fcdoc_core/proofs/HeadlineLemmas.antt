@@ -3,10 +3,10 @@ use Rattle.std.proofs.Common.{◌≡◌, ℕ, true, List, Option, None, Some, If
 use Rattle.std.specs.Io.KnownBytes.{Appends}
 use Rattle.fcdoc_core.specs.declared.status.Status.{Status}
 use Rattle.fcdoc_core.specs.declared.status.Status.TheVariants.{Done, SomeRefused, Usage, Missing, DocumentRefused, ScriptRefused, StoreFault, SinkFault, Memory}
-use Rattle.fcdoc_core.specs.Headline.{Counts, NoneFailed, HasCauses, Writes, is_end}
+use Rattle.fcdoc_core.specs.Headline.{Counts, NoneFailed, HasCauses, Writes}
 use Rattle.fc_base.specs.Devices.{Held}
 use Rattle.fcdoc_core.specs.declared.plan.Plan.{Plan}
-use Rattle.fcdoc_core.specs.Plans.{Means, top_of_plan}
+use Rattle.fcdoc_core.specs.Plans.{Means, is_end, top_of_plan}
 use Rattle.fcdoc_core.specs.Top.{Top, text_of}
 
 pub writes_all : (t : Top) (status : Status) (before after : Option (List ℕ)) → is_end status ≡ true → status ≡ t.status → Appends before after (text_of t) → Writes t status before after

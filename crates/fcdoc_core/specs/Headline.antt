@@ -1,23 +1,16 @@
 -- What a run leaves, by its status.
-use Rattle.std.specs.Prelude.{◌≡◌, ◌≢◌, ◌⊎◌, ℕ, Bool, true, false, List, Option}
+use Rattle.std.specs.Prelude.{◌≡◌, ◌≢◌, ◌⊎◌, ℕ, List, Option, IfSome}
 use Rattle.std.specs.Io.KnownBytes.{Appends, Keeps}
-use Rattle.fc_base.specs.Devices.{HasRisen, last_count}
+use Rattle.fc_base.specs.Devices.{Held, HasRisen, last_count}
+use Rattle.document_outcomes.specs.Typed.{no_features}
 use Rattle.fcdoc_core.specs.declared.status.Status.{Status}
 use Rattle.fcdoc_core.specs.declared.status.Status.TheVariants.{Done, SomeRefused, Usage, Missing, DocumentRefused, ScriptRefused, StoreFault, SinkFault, Memory}
 use Rattle.fcdoc_core.specs.Delivery.{GaveLess, GaveFront}
-use Rattle.fcdoc_core.specs.Top.{Top, text_of}
+use Rattle.fcdoc_core.specs.Top.{Top, text_of, top}
 
--- a status with which a whole text goes: no device failed, and there was memory
-abbrev pub is_end : Status → Bool
-is_end Done = true
-is_end SomeRefused = true
-is_end Usage = true
-is_end Missing = true
-is_end DocumentRefused = true
-is_end ScriptRefused = true
-is_end StoreFault = false
-is_end SinkFault = false
-is_end Memory = false
+-- this holds of the meaning of the words, where the store tells what it holds
+abbrev pub OfMeaning : Option Held → List (List ℕ) → (Top → Type 0) → Type 0
+OfMeaning known words P = IfSome known (λ held. P (top no_features words held))
 
 -- the status is that of the meaning, and the sink was given its whole text
 pub record GaveAll (t : Top) (status : Status) (before after : Option (List ℕ)) : Type 0 where
@@ -43,6 +36,10 @@ pub record Counts : Type 0 where
   pub store_after : ℕ
   pub sink_before : ℕ
   pub sink_after : ℕ
+
+abbrev pub counts : ℕ → ℕ → ℕ → ℕ → Counts
+counts store_before store_after sink_before sink_after =
+    record { store_before = store_before; store_after = store_after; sink_before = sink_before; sink_after = sink_after }
 
 -- no count rose
 pub record NoneFailed (c : Counts) : Type 0 where
@@ -81,3 +78,8 @@ pub record AreHonest (c : Counts) : Type 0 where
 -- honest devices get the defined status, or there was no memory
 abbrev pub IsComplete : Top → Status → Counts → Type 0
 IsComplete t status c = AreHonest c → (status ≡ t.status) ⊎ (status ≡ Memory)
+
+-- how a run ends whose words have no form: the store, which it does not ask, is never blamed
+pub record EndsAsUsage (status : Status) (c : Counts) : Type 0 where
+  pub ends : (status ≡ Usage) ⊎ ((status ≡ SinkFault) ⊎ (status ≡ Memory))
+  pub store : c.store_after ≡ c.store_before

@@ -11,6 +11,7 @@ pub mod Replies
 pub mod ScriptFaults
 pub mod Scripts
 pub mod Sessions
+pub mod Statuses
 pub mod StepFaults
 pub mod Stepping
 pub mod Top

@@ -35,8 +35,8 @@ pub record Stepped : Type 0 where
   pub answer : Result Reply Refusal
 
 -- the state of a document that was read
-abbrev pub opened : Document → State
-opened d = record { now = d; last = []; clean = false }
+abbrev pub first_state : Document → State
+first_state d = record { now = d; last = []; clean = false }
 
 -- ---- the commands
 

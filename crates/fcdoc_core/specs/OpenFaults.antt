@@ -2,8 +2,8 @@
 use Rattle.std.specs.Prelude.{ℕ, List, [], IsTrue}
 use Rattle.doc_rules.specs.Edits.{fault_told}
 use Rattle.doc_rules.specs.Refusals.{is_refusal_number}
-use Rattle.fcdoc_core.specs.declared.opening.OpenFault.{OpenFault}
-use Rattle.fcdoc_core.specs.declared.opening.OpenFault.TheVariants.{NotBuilt, Load, Doc, Memory}
+use Rattle.fcdoc_core.specs.declared.open_fault.OpenFault.{OpenFault}
+use Rattle.fcdoc_core.specs.declared.open_fault.OpenFault.TheVariants.{NotBuilt, Load, Doc, Memory}
 use Rattle.fcdoc_file.specs.Loading.{malformed, not_built}
 use Rattle.fcdoc_core.specs.Opening.{unloaded, faulty}
 use Rattle.fcdoc_core.specs.Replies.{unopened_text}

@@ -4,9 +4,9 @@ use Rattle.document_model.specs.Document.{Document}
 use Rattle.document_outcomes.specs.Faults.{Fault, first_fault}
 use Rattle.doc_rules.specs.Found.{IsFault}
 use Rattle.fcdoc_file.specs.Loading.{Unloaded, malformed, not_built, loaded}
-use Rattle.fcdoc_core.specs.declared.opening.OpenFault.{OpenFault}
-use Rattle.fcdoc_core.specs.declared.opening.OpenFault.TheVariants.{NotBuilt, Load, Doc, Memory}
-use Rattle.fcdoc_core.specs.Machine.{State, opened}
+use Rattle.fcdoc_core.specs.declared.open_fault.OpenFault.{OpenFault}
+use Rattle.fcdoc_core.specs.declared.open_fault.OpenFault.TheVariants.{NotBuilt, Load, Doc, Memory}
+use Rattle.fcdoc_core.specs.Machine.{State, first_state}
 
 -- Why a document is not opened: the bytes are the text of none, or the document has a fault.
 pub data Unopened : Type 0 where
@@ -14,7 +14,7 @@ pub data Unopened : Type 0 where
   faulty : Fault → Unopened
 
 abbrev pub opened_by : Document → Option Fault → Result State Unopened
-opened_by d None = Ok (opened d)
+opened_by d None = Ok (first_state d)
 opened_by d (Some f) = Err (faulty f)
 
 abbrev pub opened_from : Result Document Unloaded → Result State Unopened

@@ -1,7 +1,10 @@
+-- Private: only contracts inside this crate cite this.
 -- What a run is to write once its document and script are there, and why it stops before.
-use Rattle.std.specs.Prelude.{◌≡◌, ℕ, ◌≤◌, List, length, Option, None, Some, Result, Ok, Err, IfSome, string_bytes}
+use Rattle.std.specs.Prelude.{◌≡◌, ℕ, ◌≤◌, Bool, true, false, List, length, Option, None, Some, Result, Ok, Err, IfSome, string_bytes}
 use Rattle.std.specs.Io.KnownBytes.{Appends}
-use Rattle.fc_base.specs.Devices.{Held, HasRisen}
+use Rattle.fc_base.specs.Devices.{Held, HasRisen, HoldsBeyond}
+use Rattle.fc_base.specs.declared.faults.DeviceFault.{DeviceFault}
+use Rattle.fc_base.specs.declared.faults.DeviceFault.TheVariants as device
 use Rattle.document_outcomes.specs.Typed.{no_features}
 use Rattle.fcdoc_core.specs.declared.status.Status.{Status}
 use Rattle.fcdoc_core.specs.declared.status.Status.TheVariants as status
@@ -10,7 +13,6 @@ use Rattle.fcdoc_core.specs.declared.plan.Plan.TheVariants.{Usage, Missing, Docu
 use Rattle.fcdoc_core.specs.declared.stop.Stop.{Stop}
 use Rattle.fcdoc_core.specs.declared.stop.Stop.TheVariants.{Store, Sink, Memory}
 use Rattle.std.specs.FinMap.{get}
-use Rattle.fc_base.specs.Devices.{HoldsBeyond}
 use Rattle.fcdoc_core.specs.declared.plan.Found.{Found}
 use Rattle.fcdoc_core.specs.declared.plan.Found.TheVariants.{Bytes, TooLong, Nothing}
 use Rattle.fcdoc_core.specs.Scripts.{most_bytes, with_replies}
@@ -57,6 +59,13 @@ CountsStop (Err Store) before after = HasRisen before after
 CountsStop (Err Sink) before after = ⊥
 CountsStop (Err Memory) before after = after ≡ before
 
+-- What an offer of a text leaves, by what it answers: all of it was given and no count rose; or the
+-- sink failed and a proper front was given; or memory ran out behind a proper front.
+abbrev pub Delivers : List ℕ → Result (Unit {0}) DeviceFault → Option (List ℕ) → Option (List ℕ) → ℕ → ℕ → Type 0
+Delivers text (Ok u) before after old new = Appends before after text × (new ≡ old)
+Delivers text (Err device.Failed) before after old new = GaveLess text before after × HasRisen old new
+Delivers text (Err (device.Memory e)) before after old new = GaveLess text before after × (new ≡ old)
+
 -- What an attempt to write a text leaves in the sink, and its count of faults, by how it ended: all of
 -- the text was given, and the value answered is right; the sink failed behind a proper front; or no
 -- memory was left behind some front.
@@ -69,6 +78,18 @@ Tells text P (Err Memory) before after old new = GaveFront text before after × 
 -- the same of the text of a meaning, with its status
 abbrev pub Speaks : Top → Result Status Stop → Option (List ℕ) → Option (List ℕ) → ℕ → ℕ → Type 0
 Speaks t result before after old new = Tells (text_of t) (λ status. status ≡ t.status) result before after old new
+
+-- a status with which a whole text goes: no device failed, and there was memory
+abbrev pub is_end : Status → Bool
+is_end status.Done = true
+is_end status.SomeRefused = true
+is_end status.Usage = true
+is_end status.Missing = true
+is_end status.DocumentRefused = true
+is_end status.ScriptRefused = true
+is_end status.StoreFault = false
+is_end status.SinkFault = false
+is_end status.Memory = false
 
 -- what was found under a name is what the store holds there, where that is within the limit
 abbrev pub IsFound : Held → List ℕ → Found → Type 0

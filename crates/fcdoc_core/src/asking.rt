@@ -22,7 +22,7 @@ use std::alloc::Global;
 
 /// The value of the slot that a path names: its own, or the outcome that is kept for it where the
 /// document is clean.
-pub(crate) fn value_of(
+pub(crate) fn value_reply(
     alloc: Global,
     tables: &Tables,
     values: &Values,
@@ -47,7 +47,11 @@ pub(crate) fn value_of(
 }
 
 /// The expression to which the slot is bound that a path names.
-pub(crate) fn expression_of(alloc: Global, tables: &Tables, path: &Path) -> Result<Reply, StepFault>
+pub(crate) fn expression_reply(
+    alloc: Global,
+    tables: &Tables,
+    path: &Path,
+) -> Result<Reply, StepFault>
     ensures exact { Answers (expression_told tables.now.document path.now) result }
     ensures named { (r : Refusal) → result ≡ Err (Refused r) → IsNamed r }
 {

@@ -1,3 +1,6 @@
+ghost use Rattle.std.specs.Prelude.{◌≡◌};
+ghost use Rattle.fcdoc_core.specs.declared.command.CommandFault.TheVariants.{Memory};
+
 use doc_rules::Edit;
 use object_paths::Path;
 use std::alloc::AllocError;
@@ -19,9 +22,18 @@ pub enum Command {
 /// Why a line was not read as a command.
 #[derive(Debug, Drop, Error)]
 pub enum CommandFault {
-    /// It is none of the commands that are built.
+    /// It is none of the commands that are built, or has a control character other than tab.
     #[error("no command that is built")]
     NotBuilt,
+    /// No memory was left, which says nothing of the line.
     #[error("out of memory")]
     Memory(AllocError),
+}
+
+impl From<AllocError> for CommandFault {
+    ghost from_gives = { λ cause e. e ≡ Memory cause };
+
+    fn from(cause: AllocError) -> CommandFault {
+        CommandFault::Memory(cause)
+    }
 }

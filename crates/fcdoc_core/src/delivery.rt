@@ -2,11 +2,9 @@
 
 ghost use Rattle.std.specs.Prelude.{◌≡◌, map, string_bytes, IsTrue, IfOk};
 ghost use Rattle.document_outcomes.specs.Typed.{no_features};
-ghost use Rattle.fcdoc_core.specs.Headline.{is_end};
-ghost use Rattle.fcdoc_core.specs.Delivery.{Delivers};
 ghost use Rattle.fcdoc_core.specs.Machine.{answers, is_refusal, step_line};
 ghost use Rattle.fcdoc_core.specs.Replies.{answer_text};
-ghost use Rattle.fcdoc_core.specs.Plans.{Tells, Speaks, top_of_plan};
+ghost use Rattle.fcdoc_core.specs.Plans.{Delivers, Speaks, Tells, is_end, top_of_plan};
 ghost use Rattle.fcdoc_core.specs.Scripts.{with_replies};
 ghost use Rattle.fcdoc_core.specs.Top.{one_piece, missing, replies_of};
 
@@ -35,7 +33,7 @@ fn offer<K: Sink>(out: &mut K, piece: &[u8]) -> Result<(), DeviceFault>
     Ok(())
 }
 
-/// Writes a text, and answers with the value that goes with it.
+/// Writes a text.
 fn say<K: Sink>(out: &mut K, text: &[u8]) -> Result<(), Stop>
     ensures { Tells text.now (λ _. Unit {0}) result (K.written out.old) (K.written out.new) (K.faults out.old) (K.faults out.new) }
 {
@@ -57,16 +55,13 @@ fn reply_to<K: Sink>(
         Tells (answer_text answer) (λ refused. refused ≡ is_refusal answer) result (K.written out.old) (K.written out.new) (K.faults out.old) (K.faults out.new) }
     ensures state { IfOk result (λ _. session.new ≡ (step_line no_features session.old line.now).state) }
 {
-    let Ok(answer) = answer_to(alloc, session, line, &mut Steps::new(())) else {
-        return Err(Stop::Memory);
-    };
-    match say(out, answer.text.as_slice()) {
-        Ok(()) => Ok(answer.is_refusal),
-        Err(stop) => Err(stop),
-    }
+    let answer = answer_to(alloc, session, line, &mut Steps::new(()))?;
+    say(out, answer.text.as_slice())?;
+    Ok(answer.is_refusal)
 }
 
-/// Runs the lines that are not skipped and writes the replies, and answers whether one is a refusal.
+/// Runs the lines that are not skipped and writes the replies, and answers the status: SomeRefused
+/// where a reply is a refusal.
 fn reply_to_all<K: Sink>(
     alloc: Global,
     session: &mut Session,
@@ -97,19 +92,15 @@ fn reply_to_all<K: Sink>(
 fn say_line<K: Sink>(out: &mut K, text: &[u8], status: Status) -> Result<Status, Stop>
     ensures { Speaks (one_piece status text.now) result (K.written out.old) (K.written out.new) (K.faults out.old) (K.faults out.new) }
 {
-    match say(out, text) {
-        Ok(()) => Ok(status),
-        Err(stop) => Err(stop),
-    }
+    say(out, text)?;
+    Ok(status)
 }
 
 fn say_missing<K: Sink>(alloc: Global, out: &mut K, name: &str) -> Result<Status, Stop>
     ensures { Speaks (missing name.now) result (K.written out.old) (K.written out.new) (K.faults out.old) (K.faults out.new) }
 {
-    match format!(in alloc; "missing {name}\n") {
-        Ok(text) => say_line(out, text.as_bytes(), Status::Missing),
-        Err(_) => Err(Stop::Memory),
-    }
+    let text = format!(in alloc; "missing {name}\n")?;
+    say_line(out, text.as_bytes(), Status::Missing)
 }
 
 /// Writes what a plan says, and answers its status.

@@ -1,6 +1,6 @@
 //! Finds out what a run is to write: the words, the document and the script.
 
-ghost use Rattle.std.specs.Prelude.{◌≡◌, ◌++◌, map, codes, Option, None, Some, IfOk, IfSome, IsSome, OnErr, string_bytes, Ok, Err};
+ghost use Rattle.std.specs.Prelude.{◌≡◌, ◌++◌, map, codes, Option, None, Some, IfOk, IfSome, IsNone, IsSome, OnErr, string_bytes, Ok, Err};
 ghost use Rattle.fc_base.specs.Devices.{Fetches};
 ghost use Rattle.fcdoc_core.specs.Plans.{Means, MeansFiles, MeansNames, MeansScript, CountsStop, IsFound, IsWithin, top_of_plan};
 ghost use Rattle.fcdoc_core.specs.ScriptFaults.{cause_told};
@@ -13,7 +13,7 @@ ghost use Rattle.fcdoc_core.specs.Top.{missing, one_piece, script_refused, top, 
 ghost use Rattle.std.specs.FinMap.{get};
 ghost use Rattle.fcdoc_core.specs.Words.{names_of};
 
-use crate::opening::OpenFault;
+use crate::open_fault::OpenFault;
 use crate::script::Script;
 use crate::script_fault::ScriptFault;
 use crate::session::Session;
@@ -69,10 +69,7 @@ fn missing(alloc: Global, name: &str) -> Result<Plan, Stop>
     ensures plan { IfOk result (λ plan. top_of_plan plan ≡ missing name.now) }
     ensures stop { OnErr result (result ≡ Err Stop.Memory) }
 {
-    match String::from_str(alloc, name) {
-        Ok(name) => Ok(Plan::Missing(name)),
-        Err(_) => Err(Stop::Memory),
-    }
+    Ok(Plan::Missing(String::from_str(alloc, name)?))
 }
 
 /// The line of a document that is not opened.
@@ -82,10 +79,7 @@ fn document_refused(alloc: Global, fault: &OpenFault) -> Result<Plan, Stop>
     ensures plan { IfOk result (λ plan. top_of_plan plan ≡ one_piece DocumentRefused (open_fault_text fault.now)) }
     ensures stop { OnErr result (result ≡ Err Stop.Memory) }
 {
-    match fault.write(alloc) {
-        Ok(line) => Ok(Plan::DocumentRefused(line)),
-        Err(_) => Err(Stop::Memory),
-    }
+    Ok(Plan::DocumentRefused(fault.write(alloc)?))
 }
 
 /// The line of a script that is not read.
@@ -94,10 +88,7 @@ fn script_refused(alloc: Global, fault: &ScriptFault) -> Result<Plan, Stop>
     ensures plan { IfOk result (λ plan. IfSome (cause_told fault.now) (λ cause. top_of_plan plan ≡ script_refused cause)) }
     ensures stop { OnErr result (result ≡ Err Stop.Memory) }
 {
-    match fault.write(alloc) {
-        Ok(line) => Ok(Plan::ScriptRefused(line)),
-        Err(_) => Err(Stop::Memory),
-    }
+    Ok(Plan::ScriptRefused(fault.write(alloc)?))
 }
 
 /// What follows for a session and the bytes of a script, within the limit.
@@ -180,6 +171,7 @@ pub(crate) fn plan_of_words<S: Store>(
 ) -> Result<Plan, Stop>
     ensures told { IfOk result (Means (S.holds store.old) (top no_features (map string_bytes words.now))) }
     ensures means { IfOk result (MeansFiles (names_of (map string_bytes words.now))) }
+    ensures usage { IsNone (names_of (map string_bytes words.now)) → result ≡ Ok Plan.Usage }
     ensures holds { S.holds store.new ≡ S.holds store.old }
     ensures count { CountsStop result (S.faults store.old) (S.faults store.new) }
 {

@@ -59,7 +59,7 @@ fn path_and_text(alloc: Global, target: &str, tail: &str) -> Result<(Path, EditT
         return Err(CommandFault::NotBuilt);
     }
     let path = property_of(alloc, target)?;
-    let text = EditText::of(alloc, tail).map_err(CommandFault::Memory)?;
+    let text = EditText::of(alloc, tail)?;
     Ok((path, text))
 }
 

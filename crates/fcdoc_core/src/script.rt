@@ -101,7 +101,7 @@ impl Script {
     /// Reads the text of a script, of any size. NotUtf8 and LineTooLong have the number, counted from
     /// 1, of the first line that is not UTF-8 or has more than 4,096 bytes without its end; on one
     /// line NotUtf8 comes first. TooManyLines comes where no line is so, and there are more than
-    /// 100,000.
+    /// 100,000. The lines are copied, so time and memory grow with the bytes.
     pub fn read(alloc: Global, bytes: &[u8]) -> Result<Script, ScriptFault>
         ensures { ReadsScript (script_of bytes.now) result }
     {

@@ -18,6 +18,7 @@ pub enum ScriptFault {
     /// There are more than 100,000 lines.
     #[error("more than 100,000 lines")]
     TooManyLines,
+    /// No memory was left, which says nothing of the bytes.
     #[error("out of memory")]
     Memory(AllocError),
 }

@@ -5,15 +5,15 @@ ghost use Rattle.doc_rules.specs.declared.fault.DocFault.{DocFault};
 ghost use Rattle.doc_rules.specs.declared.refusal.Refusal.{Refusal};
 ghost use Rattle.doc_rules.specs.Edits.{IsNamed, edited};
 ghost use Rattle.doc_rules.specs.Refusals.{is_refusal_number};
-ghost use Rattle.fcdoc_core.specs.declared.opening.OpenFault.TheVariants.{Doc};
+ghost use Rattle.fcdoc_core.specs.declared.open_fault.OpenFault.TheVariants.{Doc};
 ghost use Rattle.fcdoc_core.specs.declared.step_fault.StepFault.TheVariants.{Refused};
 ghost use Rattle.fcdoc_core.specs.Machine.{edited_to, least_steps, most_steps, recomputed, step};
 ghost use Rattle.fcdoc_core.specs.Opening.{Opens, opened_of};
 ghost use Rattle.fcdoc_core.specs.Stepping.{MeetsStep};
 
-use crate::asking::{expression_of, value_of};
+use crate::asking::{expression_reply, value_reply};
 use crate::command::Command;
-use crate::opening::OpenFault;
+use crate::open_fault::OpenFault;
 use crate::reply::Reply;
 use crate::step_fault::StepFault;
 use doc_rules::laws::faults_are_named;
@@ -57,11 +57,13 @@ impl Session {
     /// Opens the document that the bytes are the text of. Of bytes that are not well-formed Load tells
     /// what is wrong first; NotBuilt comes exactly for others that are the text of none, and Doc exactly
     /// where the document has a fault, which is its first.
+    ///
+    /// The whole document is checked, so the time grows with it.
     pub fn open(alloc: Global, bytes: &[u8]) -> Result<Session, OpenFault>
         ensures exact { Opens (opened_of bytes.now) result }
         ensures named { (fault : DocFault) → result ≡ Err (Doc fault) → IsTrue (is_refusal_number fault.number) }
     {
-        faults_are_named();
+        faults_are_named(); // for the proof
         let tables = match load(alloc, bytes) {
             Ok(tables) => tables,
             Err(LoadError::Load(fault)) => return Err(OpenFault::Load(fault)),
@@ -82,6 +84,9 @@ impl Session {
 
     /// Does a command, and answers its reply. A command that is refused, or that finds no memory,
     /// changes nothing. A recompute counts a step for each node that it evaluates.
+    ///
+    /// An edit copies and checks the whole document, and a recompute evaluates all its expressions, so
+    /// both take time that grows with it.
     pub fn step<L>(&mut self, command: &Command, steps: &mut Steps<L>) -> Result<Reply, StepFault>
         ensures exact { MeetsStep self.old self.new (step no_features self.old command.now) result }
         ensures named { (r : Refusal) → result ≡ Err (Refused r) → IsNamed r }
@@ -89,17 +94,17 @@ impl Session {
         ensures never_less { steps.old ≤ steps.new }
         ensures at_most { steps.new ≤ min (steps.old + most_steps self.old command.now) (2 ^ 64 - 1) }
     {
-        steps.is_bounded();
+        steps.is_bounded(); // for the proof
         match command {
             Command::Edit(edit) => self.edit(edit),
-            Command::Get(path) => value_of(
+            Command::Get(path) => value_reply(
                 self.alloc,
                 &self.tables,
                 &self.values,
                 self.clean,
                 path,
             ),
-            Command::Expression(path) => expression_of(self.alloc, &self.tables, path),
+            Command::Expression(path) => expression_reply(self.alloc, &self.tables, path),
             Command::Recompute => self.recompute(steps),
         }
     }
@@ -122,7 +127,7 @@ impl Session {
         ensures never_less { steps.old ≤ steps.new }
         ensures at_most { steps.new ≤ min (steps.old + nodes_of_document self.old.now) (2 ^ 64 - 1) }
     {
-        self.tables.holds_var_sets();
+        self.tables.holds_var_sets(); // for the proof
         let report = self.values.recompute(&self.tables, steps)?;
         self.clean = true;
         Ok(Reply::Recomputed(report))

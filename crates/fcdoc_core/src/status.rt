@@ -1,4 +1,7 @@
-/// How a run ended, with its exit status.
+ghost use Rattle.std.specs.Prelude.{◌≡◌};
+ghost use Rattle.fcdoc_core.specs.Statuses.{exit_code};
+
+/// How a run ended.
 #[derive(Clone, Copy, Debug, PartialEq, Eq)]
 pub enum Status {
     /// Every line was run, and no reply is a refusal.
@@ -19,4 +22,13 @@ pub enum Status {
     SinkFault = 7,
     /// No memory was left.
     Memory = 8,
+}
+
+impl Status {
+    /// The exit status of the program: 0 where no reply is a refusal, and 8 where no memory was left.
+    pub fn exit_code(self) -> u8
+        ensures { result ≡ exit_code self }
+    {
+        self as u8
+    }
 }

@@ -8,8 +8,10 @@ use thiserror::Error;
 /// Why a command was not done.
 #[derive(Debug, Drop, Error)]
 pub enum StepFault {
+    /// A rule forbids it, or there is no answer yet. Nothing was changed.
     #[error("refused")]
     Refused(Refusal),
+    /// No memory was left. Nothing was changed.
     #[error("out of memory")]
     Memory(AllocError),
 }

@@ -1,8 +1,7 @@
-ghost use Rattle.std.specs.Prelude.{◌≡◌, map, string_bytes, IfSome};
-ghost use Rattle.document_outcomes.specs.Typed.{no_features};
+ghost use Rattle.std.specs.Prelude.{◌≡◌, map, string_bytes, IsNone};
 ghost use Rattle.fcdoc_core.specs.Files.{WritesForFiles};
-ghost use Rattle.fcdoc_core.specs.Headline.{Writes, HasCauses, IsComplete};
-ghost use Rattle.fcdoc_core.specs.Top.{top};
+ghost use Rattle.fcdoc_core.specs.Headline.{EndsAsUsage, HasCauses, IsComplete, OfMeaning, Writes, counts};
+ghost use Rattle.fcdoc_core.specs.Words.{names_of};
 
 use crate::status::Status;
 use crate::stop::Stop;
@@ -19,11 +18,12 @@ use std::alloc::Global;
 /// faults rose.
 #[tactic(auto, using(crate::proofs::FilesLemmas::store_failed, crate::proofs::FilesLemmas::no_memory, crate::proofs::FilesLemmas::sink_failed, crate::proofs::FilesLemmas::memory_ended))]
 pub fn run<S: Store, K: Sink>(alloc: Global, words: &[String], store: &mut S, out: &mut K) -> Status
-    ensures headline { IfSome (S.holds store.old) (λ held. Writes (top no_features (map string_bytes words.now) held) result (K.written out.old) (K.written out.new)) }
+    ensures headline { OfMeaning (S.holds store.old) (map string_bytes words.now) (λ t. Writes t result (K.written out.old) (K.written out.new)) }
     ensures for_files { WritesForFiles (map string_bytes words.now) result (K.written out.old) (K.written out.new) }
     ensures store { S.holds store.new ≡ S.holds store.old }
-    ensures causes { HasCauses result (record { store_before = S.faults store.old; store_after = S.faults store.new; sink_before = K.faults out.old; sink_after = K.faults out.new }) }
-    ensures complete { IfSome (S.holds store.old) (λ held. IsComplete (top no_features (map string_bytes words.now) held) result (record { store_before = S.faults store.old; store_after = S.faults store.new; sink_before = K.faults out.old; sink_after = K.faults out.new })) }
+    ensures usage { IsNone (names_of (map string_bytes words.now)) → EndsAsUsage result (counts (S.faults store.old) (S.faults store.new) (K.faults out.old) (K.faults out.new)) }
+    ensures causes { HasCauses result (counts (S.faults store.old) (S.faults store.new) (K.faults out.old) (K.faults out.new)) }
+    ensures complete { OfMeaning (S.holds store.old) (map string_bytes words.now) (λ t. IsComplete t result (counts (S.faults store.old) (S.faults store.new) (K.faults out.old) (K.faults out.new))) }
 {
     let plan = match plan::plan_of_words(alloc, words, store) {
         Ok(plan) => plan,

@@ -18,12 +18,13 @@ pub enum OpenFault {
     /// The bytes are well-formed, and not the text of a document of the first form.
     #[error("not a document of the first form")]
     NotBuilt,
-    /// The bytes are not well-formed.
-    #[error("not well-formed: {:?} at {}", .0.cause, .0.place)]
+    /// The bytes are not well-formed: the first fault that a scan from the front finds.
+    #[error("not well-formed: {0}")]
     Load(LoadFault),
-    /// The document has this fault.
+    /// The bytes are the text of a document, and this is its first fault.
     #[error("a fault of the document")]
     Doc(DocFault),
+    /// No memory was left, which says nothing of the bytes.
     #[error("out of memory")]
     Memory(AllocError),
 }
