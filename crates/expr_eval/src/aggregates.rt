@@ -1,4 +1,4 @@
-ghost use Rattle.std.specs.Prelude.{◌≡◌, length, pos};
+ghost use Rattle.std.specs.Prelude.{◌≡◌, length};
 ghost use Rattle.std.specs.List.{reduce};
 ghost use Rattle.std.specs.Int.{int_max, int_min};
 ghost use Rattle.expr_eval.specs.Aggregates.{aggregate_outcome, amounts, average_outcome, best_outcome, count_of, mean, total, unit_of_all};
@@ -6,21 +6,8 @@ ghost use Rattle.expr_eval.specs.Aggregates.{aggregate_outcome, amounts, average
 use crate::numbers::calculated;
 use expr_tree::AggregateOp;
 use property_types::{Outcome, Value, ValueFault};
-use quantities::{Amount, AmountFault, Quantity, Range};
+use quantities::{Amount, AmountFault, ONE_RAW, Quantity};
 use unit_signatures::Unit;
-
-/// 1, in billionths.
-const ONE: i128 = 1_000_000_000;
-
-/// 0.
-fn zero() -> Amount
-    ensures { result ≡ pos 0 }
-{
-    match Amount::of_raw(0) {
-        Ok(zero) => zero,
-        Err(Range) => unreachable!(),
-    }
-}
 
 /// The unit of the numbers; of none it is the pure unit.
 fn unit_of_all(numbers: &[Quantity]) -> Unit
@@ -36,7 +23,7 @@ fn unit_of_all(numbers: &[Quantity]) -> Unit
 fn total(numbers: &[Quantity]) -> Result<Amount, AmountFault>
     ensures { result ≡ total (amounts numbers.now) }
 {
-    let mut sum = zero();
+    let mut sum = Amount::zero();
     for number in numbers {
         sum = sum.plus(&number.amount)?;
     }
@@ -48,7 +35,7 @@ fn count_of(numbers: &[Quantity]) -> Result<Amount, AmountFault>
     ensures { result ≡ count_of (length numbers.now) }
 {
     let count = numbers.len() as i128;
-    Amount::of_raw(count * ONE).map_err(|_| AmountFault::Range)
+    Amount::of_raw(count * ONE_RAW).map_err(|_| AmountFault::Range)
 }
 
 /// The total over the count.
