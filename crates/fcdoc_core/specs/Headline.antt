@@ -79,7 +79,7 @@ pub record AreHonest (c : Counts) : Type 0 where
 abbrev pub IsComplete : Top → Status → Counts → Type 0
 IsComplete t status c = AreHonest c → (status ≡ t.status) ⊎ (status ≡ Memory)
 
--- how a run ends whose words have no form: the store, which it does not ask, is never blamed
+-- how a run ends whose words have no form: the store is never blamed
 pub record EndsAsUsage (status : Status) (c : Counts) : Type 0 where
   pub ends : (status ≡ Usage) ⊎ ((status ≡ SinkFault) ⊎ (status ≡ Memory))
   pub store : c.store_after ≡ c.store_before

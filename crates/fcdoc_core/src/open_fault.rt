@@ -22,7 +22,7 @@ pub enum OpenFault {
     #[error("not well-formed: {0}")]
     Load(LoadFault),
     /// The bytes are the text of a document, and this is its first fault.
-    #[error("a fault of the document")]
+    #[error("{0}")]
     Doc(DocFault),
     /// No memory was left, which says nothing of the bytes.
     #[error("out of memory")]

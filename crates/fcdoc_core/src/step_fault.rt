@@ -9,7 +9,7 @@ use thiserror::Error;
 #[derive(Debug, Drop, Error)]
 pub enum StepFault {
     /// A rule forbids it, or there is no answer yet. Nothing was changed.
-    #[error("refused")]
+    #[error("{0}")]
     Refused(Refusal),
     /// No memory was left. Nothing was changed.
     #[error("out of memory")]
