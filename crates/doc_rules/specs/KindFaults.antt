@@ -1,3 +1,4 @@
+-- Private: only contracts inside this crate cite this.
 -- The faults of each kind, object by object and slot by slot.
 use Rattle.std.specs.Prelude.{ℕ, Bool, false, is_none, List, [], Option, Some, None, if◌then◌else◌}
 use Rattle.std.specs.List.{list_any}

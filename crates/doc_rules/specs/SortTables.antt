@@ -1,3 +1,4 @@
+-- Private: only contracts inside this crate cite this.
 -- Sorts of slots by their numbers.
 use Rattle.std.specs.Prelude.{◌≡◌, ℕ, ◌<◌, Bool, true, false, IsSome, List, [], length, slice_index_or, Option, Some, None, Ok, Err}
 use Rattle.std.specs.List.{filter_map}

@@ -1,3 +1,4 @@
+-- Private: only contracts inside this crate cite this.
 -- What is counted of the slots of an object.
 use Rattle.std.specs.Prelude.{ℕ, List, length, map, sum_by}
 use Rattle.std.specs.Option.{option_len}

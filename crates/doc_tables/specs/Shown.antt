@@ -1,3 +1,4 @@
+-- Private: only contracts inside this crate cite this.
 -- The entries of tables without the room that their maps have, and how they change.
 use Rattle.std.specs.Prelude.{ℕ, zero, suc, List, [], ◌∷◌, ◌++◌, map}
 use Rattle.document_model.specs.declared.content.Content.{Content}

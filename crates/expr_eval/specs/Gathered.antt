@@ -1,3 +1,4 @@
+-- Private: only contracts inside this crate cite this.
 -- All items of a list of results, or the first fault, as a call gives them.
 use Rattle.std.specs.Prelude.{◌≡◌, List, Vec, Result, Ok, Err}
 use Rattle.expr_eval.specs.Firsts.{all_of}

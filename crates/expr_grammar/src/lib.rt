@@ -5,9 +5,9 @@
 //! text is cut into tokens to `expr_tokens`. The laws that texts and trees keep are those of
 //! `expression_laws`.
 //!
-//! Main calls: `parse`, `parse_closed`, `print`, `is_too_large`, and those of `expr_tree`, which are
-//! given again. Page: `docs/expressions.md`. Rows: `worked_calls` (`grammar.rt`), and the cases
-//! `rows_*` of `tests/conformance`.
+//! Main calls: `parse`, `parse_closed`, `print`, `is_too_large`, and most of those of `expr_tree`,
+//! which are given again. Page: `docs/expressions.md`. Rows: `worked_calls` (`grammar.rt`), and the
+//! cases `rows_*` of `tests/conformance`.
 #![tactic(auto)]
 
 mod closed;

@@ -1,4 +1,3 @@
--- Private: only proofs cite this.
 -- Arguments in front of others.
 use Rattle.std.specs.Prelude.{List, [], ◌∷◌}
 use Rattle.expr_tree.specs.declared.expr.Argument.{Argument}

@@ -1,8 +1,13 @@
 //! fcdoc: runs a script on a document.
 //!
-//! `run` of `fcdoc_core` does all of it, over the files and standard output. What is done here: the
-//! words are read, and the status is handed over. The forms, statuses and replies are on the page
-//! `docs/commands.md`; whole runs are the cases of `tests/conformance`.
+//! It knows the words, the files and the standard output that a run has, and the exit code in which
+//! it ends. All rules are those of `fcdoc_core`, whose `run` does the rest over a `FileStore` and a
+//! `StdSink`. Words that are no text end as no words do; where memory runs out before the words are
+//! read, the exit code is that of Memory. `main` has no contract.
+//!
+//! The forms, statuses and replies are on the page `docs/commands.md`, and what is not promised of
+//! `main` on `docs/promises.md`. Whole runs are the cases of `tests/conformance`; the rows of `run`
+//! are in `worked_calls/src/runs.rt`.
 #![tactic(auto)]
 
 use fc_base::{FileStore, StdSink};

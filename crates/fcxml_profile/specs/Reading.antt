@@ -1,4 +1,3 @@
--- Private: only contracts inside this crate cite this.
 -- A scanner as the code has it.
 use Rattle.std.specs.Prelude.{◌≡◌, ◌<◌, ◌≤◌, ◌^◌, ℕ, zero, suc, Bool, true, false, ◌==◌, if◌then◌else◌, List, [], ◌∷◌, length, take, Option, None, Some, IfSome, IfNone, IsSome}
 use Rattle.std.specs.Option.{option_map}

@@ -1,3 +1,4 @@
+-- Private: only contracts inside this crate cite this.
 -- What a reader answers that may want memory.
 use Rattle.std.specs.Prelude.{◌≡◌, Option, None, Some, Result, Ok, Err}
 use Rattle.object_paths.specs.declared.reading.PathFault.{PathFault}

@@ -1,3 +1,4 @@
+-- Private: only contracts inside this crate cite this.
 -- Orders in which the slots of numbers can be worked out.
 use Rattle.std.specs.Prelude.{◌≡◌, ◌↔◌, ℕ, Bool, true, false, List, Option, IsSome, is_some, slice_index_or}
 use Rattle.std.specs.List.{filter_map}

@@ -1,3 +1,4 @@
+-- Private: only contracts inside this crate cite this.
 -- How much there is to evaluate at the slots of numbers.
 use Rattle.std.specs.Prelude.{ℕ, Option, Some, None}
 use Rattle.expr_tree.specs.Nodes.{node_count}

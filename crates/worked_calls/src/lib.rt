@@ -2,7 +2,8 @@
 //! were worked out by hand.
 //!
 //! - `evaluation`: sorts, outcomes and steps of expressions (`expr_eval`).
-//! - `grammar`: trees of expressions, their references, copies and renamings (`expr_grammar`).
+//! - `grammar`: expressions and their printed forms (`expr_grammar`), and the references, copies
+//!   and renamings of their trees (`expr_tree`).
 //! - `runs`: whole runs, where a device fails or memory ends (`fcdoc_core`).
 //! - `tokens`: tokens and faults of XML, and what values of attributes mean (`fcxml_profile`).
 //!
