@@ -14,7 +14,7 @@ use unit_signatures::Unit;
 #[derive(Debug, Drop, Error)]
 pub enum FitFault {
     /// It is no value of the type: `NotWhole` or `OutOfType`.
-    #[error("not a value of the type")]
+    #[error("{0}")]
     Fault(ValueFault),
     #[error("out of memory")]
     Memory(AllocError),

@@ -3,18 +3,24 @@ ghost use Rattle.std.specs.Prelude.{◌≡◌, IfOk};
 use fc_base::TextValue;
 use quantities::Quantity;
 use std::alloc::{AllocError, Global};
+use thiserror::Error;
 
 /// Why a slot has no value.
-#[derive(Clone, Copy, Debug, PartialEq, Eq)]
+#[derive(Clone, Copy, Debug, PartialEq, Eq, Error)]
 pub enum ValueFault {
     /// A number would pass the bound of an amount.
+    #[error("the number is out of range")]
     Range,
+    #[error("a division by zero")]
     DivideByZero,
     /// A number with a fraction where the type wants a whole one.
+    #[error("the type wants a whole number")]
     NotWhole,
     /// A number outside the range of the type.
+    #[error("the number is outside the range of the type")]
     OutOfType,
     /// The average, the least or the greatest of nothing.
+    #[error("an aggregate of nothing")]
     EmptyAggregate,
 }
 
