@@ -76,6 +76,15 @@ module _ (pairs : List (ℕ × NewReference)) where
         | inr h ↦ tree-end n (min n (numbers_end pairs)) t h (omega arith)
       ]
 
+  -- also where references after it are counted on
+  pub tree_capped_from : (n k : ℕ) (t : Tree)
+      → with_numbered (renamed_path pairs) (renamed_area pairs) (n + k) t ≡ with_numbered (renamed_path pairs) (renamed_area pairs) (min n (numbers_end pairs) + k) t
+  tree_capped_from n k t =
+      elim (cases_lt n (numbers_end pairs)) [
+        | inl h ↦ ap (λ m. with_numbered (renamed_path pairs) (renamed_area pairs) (m + k) t) (number-capped n h)
+        | inr h ↦ tree-end (n + k) (min n (numbers_end pairs) + k) t (omega arith) (omega arith)
+      ]
+
   pub arguments_capped : (n : ℕ) (all : Arguments)
       → with_numbered_arguments (renamed_path pairs) (renamed_area pairs) n all ≡ with_numbered_arguments (renamed_path pairs) (renamed_area pairs) (min n (numbers_end pairs)) all
   arguments_capped n all =

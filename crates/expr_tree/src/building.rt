@@ -8,6 +8,15 @@ use crate::operators::{BinaryOp, CompareOp};
 use object_paths::Path;
 use std::alloc::{AllocError, Global};
 
+/// Both expressions, each in a box.
+fn boxed_pair(alloc: Global, left: Expr, right: Expr) -> Result<(Box<Expr>, Box<Expr>), AllocError>
+    ensures { IfOk result (λ both. (both.0.value ≡ left) × (both.1.value ≡ right)) }
+{
+    let left = Box::new(alloc, left)?;
+    let right = Box::new(alloc, right)?;
+    Ok((left, right))
+}
+
 impl Expr {
     /// The slot of the path.
     pub fn path(path: Path) -> Expr
@@ -22,8 +31,7 @@ impl Expr {
     pub fn binary(alloc: Global, op: BinaryOp, left: Expr, right: Expr) -> Result<Expr, AllocError>
         ensures { IfOk result (λ e. e ≡ t.binary op left right) }
     {
-        let left = Box::new(alloc, left)?;
-        let right = Box::new(alloc, right)?;
+        let (left, right) = boxed_pair(alloc, left, right)?;
         Ok(Expr {
             node: Node::Binary(op, left, right),
         })
@@ -48,8 +56,7 @@ impl Expr {
     ) -> Result<Expr, AllocError>
         ensures { IfOk result (λ e. e ≡ t.compare op left right) }
     {
-        let left = Box::new(alloc, left)?;
-        let right = Box::new(alloc, right)?;
+        let (left, right) = boxed_pair(alloc, left, right)?;
         Ok(Expr {
             node: Node::Compare(op, left, right),
         })
@@ -65,8 +72,7 @@ impl Expr {
         ensures { IfOk result (λ e. e ≡ t.conditional condition first second) }
     {
         let condition = Box::new(alloc, condition)?;
-        let first = Box::new(alloc, first)?;
-        let second = Box::new(alloc, second)?;
+        let (first, second) = boxed_pair(alloc, first, second)?;
         Ok(Expr {
             node: Node::Conditional(condition, first, second),
         })
@@ -86,8 +92,7 @@ impl Expr {
     pub fn modulo(alloc: Global, left: Expr, right: Expr) -> Result<Expr, AllocError>
         ensures { IfOk result (λ e. e ≡ t.modulo left right) }
     {
-        let left = Box::new(alloc, left)?;
-        let right = Box::new(alloc, right)?;
+        let (left, right) = boxed_pair(alloc, left, right)?;
         Ok(Expr {
             node: Node::Modulo(left, right),
         })

@@ -103,18 +103,15 @@ impl Expr {
         ensures { result ≡ min (node_count self.now) u32.MAX }
     {
         match &self.node {
-            Node::Literal(_, _) => 1,
-            Node::UnitOne(_) => 1,
-            Node::Flag(_) => 1,
-            Node::Text(_) => 1,
-            Node::Path(_) => 1,
-            Node::Negate(a) => a.node_count().saturating_add(1),
-            Node::Binary(_, a, b) => a
-                .node_count()
-                .saturating_add(b.node_count())
-                .saturating_add(1),
-            Node::Power(a, _) => a.node_count().saturating_add(1),
-            Node::Compare(_, a, b) => a
+            Node::Literal(_, _)
+            | Node::UnitOne(_)
+            | Node::Flag(_)
+            | Node::Text(_)
+            | Node::Path(_) => 1,
+            Node::Negate(a) | Node::Power(a, _) | Node::Function(_, a) => {
+                a.node_count().saturating_add(1)
+            }
+            Node::Binary(_, a, b) | Node::Compare(_, a, b) | Node::Modulo(a, b) => a
                 .node_count()
                 .saturating_add(b.node_count())
                 .saturating_add(1),
@@ -122,11 +119,6 @@ impl Expr {
                 let arms = a.node_count().saturating_add(b.node_count());
                 c.node_count().saturating_add(arms).saturating_add(1)
             }
-            Node::Function(_, a) => a.node_count().saturating_add(1),
-            Node::Modulo(a, b) => a
-                .node_count()
-                .saturating_add(b.node_count())
-                .saturating_add(1),
             Node::Aggregate(_, all) => {
                 let mut count: u32 = 1;
                 for argument in all {

@@ -24,23 +24,13 @@ fn push_references<'a>(tree: &'a Expr, out: &mut Vec<Reference<'a>>) -> Result<(
             out.push(Reference::ToPath(path))?;
             Ok(())
         }
-        Node::Negate(a) => push_references(a, out),
-        Node::Binary(_, a, b) => {
-            push_references(a, out)?;
-            push_references(b, out)
-        }
-        Node::Power(a, _) => push_references(a, out),
-        Node::Compare(_, a, b) => {
+        Node::Negate(a) | Node::Power(a, _) | Node::Function(_, a) => push_references(a, out),
+        Node::Binary(_, a, b) | Node::Compare(_, a, b) | Node::Modulo(a, b) => {
             push_references(a, out)?;
             push_references(b, out)
         }
         Node::Conditional(c, a, b) => {
             push_references(c, out)?;
-            push_references(a, out)?;
-            push_references(b, out)
-        }
-        Node::Function(_, a) => push_references(a, out),
-        Node::Modulo(a, b) => {
             push_references(a, out)?;
             push_references(b, out)
         }

@@ -1,6 +1,7 @@
 ghost use Rattle.std.specs.Prelude.{◌≡◌, ◌+◌, ◌≤◌, min, IfOk, OnOk, option_copied};
 ghost use Rattle.expr_tree.specs.Numbered.{with_numbered, with_numbered_arguments};
 ghost use Rattle.expr_tree.specs.NodesAsTrees.{arguments_of};
+ghost use Rattle.expr_tree.specs.Tree.{conditional};
 ghost use Rattle.expr_tree.specs.References.{argument_reference_count, reference_count};
 ghost use Rattle.expr_tree.specs.Renaming.{IsRenamingOf, new_reference, numbers_end, renamed, renamed_area, renamed_path};
 
@@ -86,7 +87,6 @@ impl Listed<'_> {
 impl Expr {
     /// The expression behind the change, whose first reference has the number, and the number
     /// behind its last one.
-    #[tactic(auto, using(crate::proofs::RenamingLemmas::tree_capped))]
     #[cycle(renamed)]
     fn renamed(
         &self,
@@ -105,8 +105,7 @@ impl Expr {
             Node::Path(path) => Ok(Expr::path(listed.path(alloc, number, path)?)),
             Node::Negate(a) => a.renamed(alloc, listed, number)?.negated(alloc),
             Node::Binary(op, a, b) => {
-                let left = a.renamed(alloc, listed, number)?;
-                let right = b.renamed(alloc, listed, number)?;
+                let (left, right) = Expr::renamed_pair(alloc, a, b, listed, number)?;
                 Expr::binary(alloc, *op, left, right)
             }
             Node::Power(a, exponent) => {
@@ -114,23 +113,18 @@ impl Expr {
                 Expr::power(alloc, base, *exponent)
             }
             Node::Compare(op, a, b) => {
-                let left = a.renamed(alloc, listed, number)?;
-                let right = b.renamed(alloc, listed, number)?;
+                let (left, right) = Expr::renamed_pair(alloc, a, b, listed, number)?;
                 Expr::compare(alloc, *op, left, right)
             }
             Node::Conditional(c, a, b) => {
-                let condition = c.renamed(alloc, listed, number)?;
-                let first = a.renamed(alloc, listed, number)?;
-                let second = b.renamed(alloc, listed, number)?;
-                Expr::conditional(alloc, condition, first, second)
+                Expr::renamed_conditional(alloc, c, a, b, listed, number)
             }
             Node::Function(op, a) => {
                 let operand = a.renamed(alloc, listed, number)?;
                 Expr::function(alloc, *op, operand)
             }
             Node::Modulo(a, b) => {
-                let left = a.renamed(alloc, listed, number)?;
-                let right = b.renamed(alloc, listed, number)?;
+                let (left, right) = Expr::renamed_pair(alloc, a, b, listed, number)?;
                 Expr::modulo(alloc, left, right)
             }
             Node::Aggregate(op, all) => {
@@ -138,6 +132,48 @@ impl Expr {
                 Ok(Expr::aggregate(*op, arguments))
             }
         }
+    }
+
+    /// Both expressions after the change, where the first reference has the number, and the number
+    /// after their last one.
+    #[tactic(auto, using(crate::proofs::RenamingLemmas::tree_capped))]
+    #[cycle(renamed)]
+    fn renamed_pair(
+        alloc: Global,
+        a: &Expr,
+        b: &Expr,
+        listed: &Listed<'_>,
+        number: &mut u64,
+    ) -> Result<(Expr, Expr), AllocError>
+        requires { number.old ≤ numbers_end listed.now.pairs.now }
+        ensures first { IfOk result (λ both. both.0 ≡ with_numbered (renamed_path listed.now.pairs.now) (renamed_area listed.now.pairs.now) number.old a.now) }
+        ensures second { IfOk result (λ both. both.1 ≡ with_numbered (renamed_path listed.now.pairs.now) (renamed_area listed.now.pairs.now) (number.old + reference_count a.now) b.now) }
+        ensures number { OnOk result (number.new ≡ min (number.old + (reference_count a.now + reference_count b.now)) (numbers_end listed.now.pairs.now)) }
+    {
+        let first = a.renamed(alloc, listed, number)?;
+        let second = b.renamed(alloc, listed, number)?;
+        Ok((first, second))
+    }
+
+    /// The condition with its arms after the change, where the first reference has the number, and
+    /// the number after their last one.
+    #[tactic(auto, using(crate::proofs::RenamingLemmas::tree_capped, crate::proofs::RenamingLemmas::tree_capped_from))]
+    #[cycle(renamed)]
+    fn renamed_conditional(
+        alloc: Global,
+        c: &Expr,
+        a: &Expr,
+        b: &Expr,
+        listed: &Listed<'_>,
+        number: &mut u64,
+    ) -> Result<Expr, AllocError>
+        requires { number.old ≤ numbers_end listed.now.pairs.now }
+        ensures tree { IfOk result (λ e. e ≡ with_numbered (renamed_path listed.now.pairs.now) (renamed_area listed.now.pairs.now) number.old (conditional c.now a.now b.now)) }
+        ensures number { OnOk result (number.new ≡ min (number.old + reference_count (conditional c.now a.now b.now)) (numbers_end listed.now.pairs.now)) }
+    {
+        let condition = c.renamed(alloc, listed, number)?;
+        let (first, second) = Expr::renamed_pair(alloc, a, b, listed, number)?;
+        Expr::conditional(alloc, condition, first, second)
     }
 
     /// The arguments behind the change, whose first reference has the number, and the number behind

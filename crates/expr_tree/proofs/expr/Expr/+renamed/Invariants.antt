@@ -20,9 +20,15 @@ invariant-renamed_arguments-loop-argument l = record {
   left : argument_nodes (arguments_of (drop l.argument-index l.arguments)) ≤ argument_nodes (arguments_of l.arguments);
 }
 
--- each call is of a smaller tree, or of arguments that are smaller than their tree
+-- each call is of a smaller tree, or of parts that are smaller than their tree
 abbrev pub decreases-renamed : goal.decreases-renamed
-decreases-renamed l = 2 * node_count l.self.now
+decreases-renamed l = 3 * node_count l.self.now
+
+abbrev pub decreases-renamed_pair : goal.decreases-renamed_pair
+decreases-renamed_pair l = 3 * (node_count l.a.now + node_count l.b.now) + 1
+
+abbrev pub decreases-renamed_conditional : goal.decreases-renamed_conditional
+decreases-renamed_conditional l = 3 * (node_count l.c.now + node_count l.a.now + node_count l.b.now) + 2
 
 abbrev pub decreases-renamed_arguments : goal.decreases-renamed_arguments
-decreases-renamed_arguments l = 2 * argument_nodes (arguments_of l.arguments.now) + 1
+decreases-renamed_arguments l = 3 * argument_nodes (arguments_of l.arguments.now) + 1
