@@ -1,6 +1,7 @@
 -- Private: only contracts inside this crate cite this.
 -- What a reader of tokens answers, against what stands in front of them.
 use Rattle.std.specs.Prelude.{◌≡◌, Bool, true, false, List, [], ◌∷◌, Option, None, Some, Result, Ok, Err}
+use Rattle.expr_tokens.specs.declared.sign.Sign.TheVariants as sign
 use Rattle.expr_tokens.specs.declared.token.Token.{Token}
 use Rattle.expr_grammar.specs.declared.no_tree.NoTree.{NoTree}
 use Rattle.expr_grammar.specs.declared.no_tree.NoTree.TheVariants.{Syntax, Memory}
@@ -8,10 +9,10 @@ use Rattle.fc_base.specs.Places.{Block}
 use Rattle.expr_tree.specs.declared.expr.Argument.{Argument}
 use Rattle.expr_tree.specs.declared.expr.Argument.TheVariants as argument
 use Rattle.expr_tree.specs.declared.functions.AggregateOp.{AggregateOp}
-use Rattle.expr_grammar.specs.Descent.{Parsed, ◌>>=◌, parsed, parsed_arguments, whole_readers, second_argument, with_bracket, behind_separator, area_in_front, of_all}
+use Rattle.expr_grammar.specs.Descent.{Parsed, ◌>>=◌, parsed, parsed_arguments, whole_readers, second_argument, with_bracket, behind_sign, exponent_in_front, behind_separator, area_in_front, of_all}
 use Rattle.expr_grammar.specs.Grammar.{expression}
 use Rattle.expr_tree.specs.Joined.{joined}
-use Rattle.expr_tree.specs.Tree.{Tree, aggregate, Arguments}
+use Rattle.expr_tree.specs.Tree.{Tree, power, aggregate, Arguments}
 
 -- it read what there is to read, and left the tokens behind it; Syntax comes where there is none
 abbrev pub Gives : {A : Type 0} → Result A NoTree → List Token → Parsed A → Type 0
@@ -39,6 +40,22 @@ Passes false rest ts p = (p ≡ None) × (rest ≡ ts)
 abbrev pub Advances : Option Token → List Token → List Token → Type 0
 Advances (Some x) rest ts = ts ≡ x ∷ rest
 Advances None rest ts = (ts ≡ []) × (rest ≡ [])
+
+-- the other arm of a condition, where a `:` stands in front of it
+abbrev pub arm_behind : Option (List Token) → Parsed Tree
+arm_behind None = None
+arm_behind (Some ts) = parsed expression ts
+
+abbrev pub with_other_arm : Tree → Parsed Tree → Parsed (Tree × Tree)
+with_other_arm a other = other >>= λ b rest. Some ((a, b), rest)
+
+-- both arms of a condition, with `:` between them
+abbrev pub arms_in_front : List Token → Parsed (Tree × Tree)
+arms_in_front ts = parsed expression ts >>= λ a rest. with_other_arm a (arm_behind (behind_sign sign.Colon rest))
+
+-- the power of a base by an exponent
+abbrev pub raised_in_front : Tree → List Token → Parsed Tree
+raised_in_front base ts = exponent_in_front ts >>= λ n rest. Some (power base n, rest)
 
 -- the two arguments of a remainder, and a closing bracket
 abbrev pub modulo_in_front : List Token → Parsed Tree

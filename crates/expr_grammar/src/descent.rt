@@ -4,7 +4,7 @@ ghost use Rattle.std.specs.Prelude.{◌≡◌, ◌<◌, ◌≤◌, length, OnOk}
 ghost use Rattle.expr_grammar.specs.Descent as d;
 ghost use Rattle.expr_grammar.specs.Grammar.{expression, comparison, sum, term, unary, powers, primary};
 ghost use Rattle.expr_tree.specs.NodesAsTrees.{arguments_of};
-ghost use Rattle.expr_grammar.specs.Reading.{Gives, GivesBy, GivesWhole, modulo_in_front, aggregate_in_front, argument_in_front};
+ghost use Rattle.expr_grammar.specs.Reading.{Gives, GivesBy, GivesWhole, arms_in_front, raised_in_front, modulo_in_front, aggregate_in_front, argument_in_front};
 ghost use Rattle.expr_tokens.specs.declared.sign.Sign.TheVariants as sign;
 
 use crate::no_tree::NoTree;
@@ -18,7 +18,7 @@ use std::alloc::Global;
 impl Parser<'_> {
     /// A condition with two arms, or a comparison.
     #[cycle(descent)]
-    #[tactic(auto, using(crate::proofs::LevelEquations::expression_is))]
+    #[tactic(auto, using(crate::proofs::LevelEquations::expression_is, crate::proofs::LevelEquations::arms_are))]
     fn expression(&mut self) -> Result<Expr, NoTree>
         ensures read { Gives result self.new.tokens.now (d.parsed expression self.old.tokens.now) }
         ensures shorter { OnOk result (length self.new.tokens.now < length self.old.tokens.now) }
@@ -27,12 +27,22 @@ impl Parser<'_> {
         if !self.skip(Sign::Question) {
             return Ok(condition);
         }
+        let (first, second) = self.arms()?;
+        Ok(Expr::conditional(self.alloc, condition, first, second)?)
+    }
+
+    /// What follows a condition and `?`: both arms, with `:` between them.
+    #[cycle(descent)]
+    fn arms(&mut self) -> Result<(Expr, Expr), NoTree>
+        ensures read { Gives result self.new.tokens.now (arms_in_front self.old.tokens.now) }
+        ensures shorter { OnOk result (length self.new.tokens.now < length self.old.tokens.now) }
+    {
         let first = self.expression()?;
         if !self.skip(Sign::Colon) {
             return Err(NoTree::Syntax);
         }
         let second = self.expression()?;
-        Ok(Expr::conditional(self.alloc, condition, first, second)?)
+        Ok((first, second))
     }
 
     /// Two sums compared, or a sum.
@@ -108,17 +118,25 @@ impl Parser<'_> {
     }
 
     /// The powers of the base: further exponents behind it, from the left.
-    #[tactic(auto, using(crate::proofs::LevelEquations::exponents_is))]
+    #[tactic(auto, using(crate::proofs::LevelEquations::exponents_is, crate::proofs::LevelEquations::exponents_are))]
     fn exponents(&mut self, base: Expr) -> Result<Expr, NoTree>
         ensures read { Gives result self.new.tokens.now (d.parsed_exponents base self.old.tokens.now) }
         ensures shorter { OnOk result (length self.new.tokens.now ≤ length self.old.tokens.now) }
     {
         let mut power = base;
         while self.skip(Sign::Caret) {
-            let exponent = self.exponent()?;
-            power = Expr::power(self.alloc, power, exponent)?;
+            power = self.raised(power)?;
         }
         Ok(power)
+    }
+
+    /// The power of the base by the exponent that comes next.
+    fn raised(&mut self, base: Expr) -> Result<Expr, NoTree>
+        ensures read { Gives result self.new.tokens.now (raised_in_front base self.old.tokens.now) }
+        ensures shorter { OnOk result (length self.new.tokens.now < length self.old.tokens.now) }
+    {
+        let exponent = self.exponent()?;
+        Ok(Expr::power(self.alloc, base, exponent)?)
     }
 
     /// What stands without an operation round it.

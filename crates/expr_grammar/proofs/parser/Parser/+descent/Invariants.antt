@@ -23,6 +23,9 @@ decreases-modulo l = 16 * length l.self.now.tokens.now + 8
 abbrev pub decreases-expression : goal.decreases-expression
 decreases-expression l = 16 * length l.self.now.tokens.now + 7
 
+abbrev pub decreases-arms : goal.decreases-arms
+decreases-arms l = 16 * length l.self.now.tokens.now + 8
+
 abbrev pub decreases-comparison : goal.decreases-comparison
 decreases-comparison l = 16 * length l.self.now.tokens.now + 6
 
