@@ -1,12 +1,13 @@
 //! Answers the lines of a script.
 
-ghost use Rattle.std.specs.Prelude.{◌≡◌, IfOk, Err, true};
+ghost use Rattle.std.specs.Prelude.{◌≡◌, IfOk, Ok, Err, true, false};
 ghost use Rattle.document_outcomes.specs.Typed.{no_features};
 ghost use Rattle.doc_rules.specs.Edits.{IsNamed};
-ghost use Rattle.fcdoc_core.specs.Machine.{is_refusal, step_line};
+ghost use Rattle.fcdoc_core.specs.Machine.{is_refusal, step, step_line};
 ghost use Rattle.fcdoc_core.specs.Replies.{answer_text};
 
 use crate::command::{Command, CommandFault};
+use crate::reply::Reply;
 use crate::session::Session;
 use crate::step_fault::StepFault;
 use doc_rules::Refusal;
@@ -34,6 +35,34 @@ fn refused(alloc: Global, refusal: &Refusal) -> Result<Answer, AllocError>
     })
 }
 
+fn told(alloc: Global, reply: &Reply) -> Result<Answer, AllocError>
+    ensures text { IfOk result (λ a. a.text.items ≡ answer_text (Ok reply.now)) }
+    ensures refused { IfOk result (λ a. a.is_refusal ≡ false) }
+{
+    Ok(Answer {
+        text: reply.write(alloc)?,
+        is_refusal: false,
+    })
+}
+
+/// The answer to a command.
+fn answer_to_command<L>(
+    alloc: Global,
+    session: &mut Session,
+    command: &Command,
+    steps: &mut Steps<L>,
+) -> Result<Answer, AllocError>
+    ensures text { IfOk result (λ a. a.text.items ≡ answer_text (step no_features session.old command.now).answer) }
+    ensures refused { IfOk result (λ a. a.is_refusal ≡ is_refusal (step no_features session.old command.now).answer) }
+    ensures state { IfOk result (λ _. session.new ≡ (step no_features session.old command.now).state) }
+{
+    match session.step(command, steps) {
+        Ok(reply) => told(alloc, &reply),
+        Err(StepFault::Refused(refusal)) => refused(alloc, &refusal),
+        Err(StepFault::Memory(error)) => Err(error),
+    }
+}
+
 /// The answer to a line of a script.
 pub(crate) fn answer_to<L>(
     alloc: Global,
@@ -45,17 +74,9 @@ pub(crate) fn answer_to<L>(
     ensures refused { IfOk result (λ a. a.is_refusal ≡ is_refusal (step_line no_features session.old line.now).answer) }
     ensures state { IfOk result (λ _. session.new ≡ (step_line no_features session.old line.now).state) }
 {
-    let command = match Command::read(alloc, line) {
-        Ok(command) => command,
-        Err(CommandFault::NotBuilt) => return refused(alloc, &Refusal::of(NOT_BUILT)),
-        Err(CommandFault::Memory(error)) => return Err(error),
-    };
-    match session.step(&command, steps) {
-        Ok(reply) => Ok(Answer {
-            text: reply.write(alloc)?,
-            is_refusal: false,
-        }),
-        Err(StepFault::Refused(refusal)) => refused(alloc, &refusal),
-        Err(StepFault::Memory(error)) => Err(error),
+    match Command::read(alloc, line) {
+        Ok(command) => answer_to_command(alloc, session, &command, steps),
+        Err(CommandFault::NotBuilt) => refused(alloc, &Refusal::of(NOT_BUILT)),
+        Err(CommandFault::Memory(error)) => Err(error),
     }
 }
