@@ -1,11 +1,8 @@
 //! Trees, printed forms and references of expressions, which the program shows in no run.
 
 use expr_grammar::{
-    AggregateOp, Argument, BinaryOp, Expr, ExprCause, ExprFault, NewReference, ParseFault,
-    Reference, Renaming, map_paths, parse, print, references,
+    ExprCause, ExprFault, ParseFault, Reference, Renaming, map_paths, parse, print, references,
 };
-use fc_base::{Address, Area};
-use object_paths::Path;
 use std::alloc::{AllocError, Global};
 use std::test::Fail;
 
@@ -145,61 +142,5 @@ fn replaces_no_reference_that_is_not_listed(rt: HostRuntime) -> Result<(), Fail>
     };
     let same = map_paths(rt.alloc(), &tree, &renaming)?;
     assert!(rt; print(rt.alloc(), &same)?.as_str() == "a + sum(b; A1:B2)");
-    Ok(())
-}
-
-/// The area between two corners.
-fn area(from: &str, to: &str) -> Option<Area> {
-    Area::of(Address::read(from)?, Address::read(to)?)
-}
-
-/// Whether `Width + sum(A1:B2; Height)` is printed so with `A1:B2` replaced by the area of the
-/// corners, and `Height` by the path.
-fn replaced_prints(
-    alloc: Global,
-    corners: (&str, &str),
-    path: &str,
-    want: &str,
-) -> Result<bool, Fail> {
-    let (Some(old), Some(new)) = (area("A1", "B2"), area(corners.0, corners.1)) else {
-        return Ok(false);
-    };
-    let width = Expr::path(Path::read(alloc, "Width")?);
-    let mut arguments = Vec::new(alloc);
-    arguments.push(Argument::Cells(old))?;
-    arguments.push(Argument::Tree(Expr::path(Path::read(alloc, "Height")?)))?;
-    let sum = Expr::aggregate(AggregateOp::Sum, arguments);
-    let tree = Expr::binary(alloc, BinaryOp::Plus, width, sum)?;
-    let mut pairs = Vec::new(alloc);
-    pairs.push((2, NewReference::ToPath(Path::read(alloc, path)?)))?;
-    pairs.push((1, NewReference::ToArea(new)))?;
-    let replaced = map_paths(alloc, &tree, &Renaming { pairs })?;
-    Ok(print(alloc, &replaced)?.as_str() == want)
-}
-
-/// What takes the place of `A1:B2` and of `Height` in `Width + sum(A1:B2; Height)`, and what that
-/// is then. References are numbered from the left, from 0, areas among them.
-static REPLACED: [((&str, &str), &str, &str); 3] = [
-    (
-        ("C3", "$D$4"),
-        "Box . Length",
-        "Width + sum(C3:$D$4; Box.Length)",
-    ),
-    (
-        ("ZZ1", "ZZ1"),
-        "<<My box>>.Placement.Base.x",
-        "Width + sum(ZZ1:ZZ1; <<My box>>.Placement.Base.x)",
-    ),
-    (("$A$1", "B16384"), ".mm", "Width + sum($A$1:B16384; .mm)"),
-];
-
-#[test]
-fn replaces_a_path_and_an_area(rt: HostRuntime) -> Result<(), Fail> {
-    for (corners, path, want) in &REPLACED {
-        assert!(rt;
-            replaced_prints(rt.alloc(), *corners, path, want)?,
-            "{want}"
-        );
-    }
     Ok(())
 }
