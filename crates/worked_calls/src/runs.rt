@@ -3,8 +3,8 @@
 ghost use Rattle.std.specs.Prelude.{◌≤◌};
 
 use doc_rules::DocFault;
-use fc_base::{MemorySink, MemoryStore, Steps, TextValue};
-use fcdoc_core::{Command, OpenFault, Reply, Script, Session, Status, StepFault, run};
+use fc_base::{MemorySink, MemoryStore, TextValue};
+use fcdoc_core::{OpenFault, Reply, Script, Status, run};
 use property_types::Value;
 use quantities::{Amount, Quantity};
 use std::alloc::{AllocError, Global};
@@ -105,23 +105,36 @@ fn store_gives(
     Ok(ends(alloc, &mut store, &words, &mut sink, (status, text)))
 }
 
+/// Whether a run of two words ends with the usage line.
+fn ends_as_usage(
+    alloc: Global,
+    store: &mut MemoryStore,
+    sink: &mut MemorySink,
+) -> Result<bool, AllocError> {
+    let words = two_words(alloc, "D")?;
+    Ok(ends(alloc, store, &words, sink, (Status::Usage, USAGE)))
+}
+
+/// Whether a run of `run D S` ends with a fault of the store, after what was written so far.
+fn ends_as_store_fault(
+    alloc: Global,
+    store: &mut MemoryStore,
+    sink: &mut MemorySink,
+) -> Result<bool, AllocError> {
+    let words = words(alloc, "D")?;
+    Ok(ends(alloc, store, &words, sink, (Status::StoreFault, USAGE)))
+}
+
 /// Whether words without a form end with the usage line and fetch nothing: the first fetch of the
 /// store, which fails, is that of the run after.
 fn usage_fetches_nothing(alloc: Global) -> Result<bool, AllocError> {
     let mut store = store(alloc, "get V.a\n", 1)?;
     let mut sink = MemorySink::new(alloc, Vec::new(alloc), 1000);
-    let wrong = two_words(alloc, "D")?;
-    let right = words(alloc, "D")?;
-    Ok(
-        ends(alloc, &mut store, &wrong, &mut sink, (Status::Usage, USAGE))
-            && ends(
-                alloc,
-                &mut store,
-                &right,
-                &mut sink,
-                (Status::StoreFault, USAGE),
-            ),
-    )
+    if ends_as_usage(alloc, &mut store, &mut sink)? {
+        ends_as_store_fault(alloc, &mut store, &mut sink)
+    } else {
+        Ok(false)
+    }
 }
 
 #[test]
@@ -141,28 +154,6 @@ fn store_fails(rt: HostRuntime) -> Result<(), Fail> {
             "document refused NotBuilt\n"
         )?
     );
-    Ok(())
-}
-
-/// Whether a session on the document answers a line with this one.
-fn answers(alloc: Global, line: &str, wanted: &[u8]) -> Result<bool, Fail> {
-    let mut session = Session::open(alloc, ONE_VARSET.as_bytes())?;
-    let command = Command::read(alloc, line)?;
-    let text = match session.step(&command, &mut Steps::new(())) {
-        Ok(reply) => reply.write(alloc)?,
-        Err(StepFault::Refused(refusal)) => refusal.write(alloc)?,
-        Err(StepFault::Memory(error)) => return Err(error.into()),
-    };
-    Ok(text.as_slice() == wanted)
-}
-
-#[test]
-fn session_is_stepped(rt: HostRuntime) -> Result<(), Fail> {
-    assert!(rt; answers(rt.alloc(), "get V.a", b"= 2\n")?);
-    assert!(rt; answers(rt.alloc(), "expr V.a", b": none\n")?);
-    assert!(rt; answers(rt.alloc(), "set V.a 3", b"ok\n")?);
-    assert!(rt; answers(rt.alloc(), "recompute", b"recomputed 0 calls 0 faults\n")?);
-    assert!(rt; answers(rt.alloc(), "set V.b 3", b"refused 3 NoProperty")?);
     Ok(())
 }
 
