@@ -24,7 +24,7 @@ use Rattle.document_model.specs.Document.{Document, Object, Cell, Property, obje
 use Rattle.document_model.specs.Resolution.{resolve}
 use Rattle.document_model.specs.Slots.{Rule, own, bound, inherit, global, output, Row, rows, rows_by, rows_in_order, dynamic_rows, row_in, row_of, slot_of, slots, rule_of, type_of}
 use Rattle.document_model.specs.TypedSlots.{property_slots}
-use Rattle.document_model.specs.WellFormed.{is_sheet}
+use Rattle.document_model.specs.Kinds.{is_sheet}
 use Rattle.document_model.proofs.Members.{and_then_some, map_some, from_find, from_flat_map}
 use Rattle.doc_tables.specs.Accessors.{AreReached, slots_reached, tree_at, tree_by}
 use Rattle.doc_tables.specs.Numbered.{Numbered, slot_at}

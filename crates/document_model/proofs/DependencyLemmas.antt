@@ -17,7 +17,7 @@ use Rattle.document_model.specs.declared.kind.ObjectKind.{ObjectKind}
 use Rattle.document_model.specs.declared.kind.ObjectKind.TheVariants.{VarSet, Sheet, Link, Feature, Foreign}
 use Rattle.document_model.specs.Document.{Document, Object, object_named}
 use Rattle.document_model.specs.Slots.{Row, Rule, own, bound, inherit, global, output, rows, row_in, slot_of, slots, rule_of}
-use Rattle.document_model.specs.Resolution.{owner_of, slot_in, cell_slot, aliased_place, named_slot, plain_slot, sheet_slot, spelled_slot, resolve}
+use Rattle.document_model.specs.Resolution.{owner_of, slot_in, cell_slot, aliased_place, has_dynamic, named_slot, plain_slot, sheet_slot, spelled_slot, resolve}
 use Rattle.document_model.specs.Dependencies.{existing, slot_reached, is_cell_within, cells_reached, slots_of_tree, placement_of, link_slots_read, inputs_of, deps_by, deps}
 use Rattle.document_model.proofs.Members.{and_then_some, map_some, or_some, from_find, from_filter, from_map, from_append, from_option, from_flat_map, from_filter_map, IsIn-map, IsIn-flat_map}
 
@@ -33,14 +33,23 @@ module _ (d : Document) where
       let m = map_some (λ (r : Row). slot_of o r.name) (row_in (rows d o) name) s h in
       subst (λ (q : Slot). IsIn q (slots d)) (sym m.2) (of_row o m.0 here (from_find _ (rows d o) m.0 m.1))
 
+  -- the slot of a cell with an alias
+  of_alias :
+      (o : Object) (name : List ℕ) (s : Slot) → IsIn o d.objects
+      → option_and_then (cell_slot d o) (aliased_place o.cells name) ≡ Some s → IsIn s (slots d)
+  of_alias o name s here e =
+      let m = and_then_some (cell_slot d o) (aliased_place o.cells name) s e in
+      of_slot_in o (Marked (unmarked m.0)) s here m.2
+
+  -- a property of that name hides an alias
+  of_chosen :
+      (hides : Bool) (o : Object) (name : List ℕ) (s : Slot) → IsIn o d.objects
+      → cond hides (slot_in d o (Plain name)) (option_and_then (cell_slot d o) (aliased_place o.cells name)) ≡ Some s → IsIn s (slots d)
+  of_chosen true o name s here h = of_slot_in o (Plain name) s here h
+  of_chosen false o name s here h = of_alias o name s here h
+
   of_named : (o : Object) (name : List ℕ) (s : Slot) → IsIn o d.objects → named_slot d o name ≡ Some s → IsIn s (slots d)
-  of_named o name s here h =
-      elim (or_some (slot_in d o (Plain name)) (option_and_then (cell_slot d o) (aliased_place o.cells name)) s h) [
-        | inl e ↦ of_slot_in o (Plain name) s here e
-        | inr e ↦
-            let m = and_then_some (cell_slot d o) (aliased_place o.cells name) s e in
-            of_slot_in o (Marked (unmarked m.0)) s here m.2
-      ]
+  of_named o name s here h = of_chosen (has_dynamic o name) o name s here h
 
   of_plain : (o : Object) (name : List ℕ) (p : Option Place) (s : Slot) → IsIn o d.objects → plain_slot d o name p ≡ Some s → IsIn s (slots d)
   of_plain o name None s here h = of_named o name s here h

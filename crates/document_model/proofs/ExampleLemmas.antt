@@ -29,7 +29,7 @@ varset_is_object = record {
   kind = tt;
   inputs = tt;
   only_dynamics = tt;
-  dynamics = (record { name = rw name_a; type = refl; group = refl; doc = refl; contents = (((lit≤ tt, record { eight = refl; each = refl }), refl), tt) }, tt);
+  dynamics = (record { name = rw name_a; type = refl; group = refl; doc = refl; attributes = refl; contents = (((lit≤ tt, record { eight = refl; each = refl }), refl), tt) }, tt);
   distinct = refl;
   only_cells = refl;
   cells = tt;
@@ -42,7 +42,8 @@ varset_is_object = record {
   only_members = refl;
   members = refl;
   kept = refl;
-  only_pieces_of_cells = refl;
+  attributes = refl;
+  pieces = record { in_object = refl; in_properties = refl; only_in_cells = refl; in_cells = refl };
 }
 
 pub one_varset_works : OneVarsetWorks
@@ -53,7 +54,7 @@ one_varset_works = record {
   ruled = refl;
   independent = refl;
   named = λ o. refl;
-  well_formed = record { objects = (varset_is_object, tt); distinct = refl };
+  well_formed = record { objects = (varset_is_object, tt); distinct = refl; attributes = refl; before = refl; between = refl; after = refl };
 }
 
 pub linked_box_works : LinkedBoxWorks

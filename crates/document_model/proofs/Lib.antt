@@ -1,4 +1,5 @@
 pub mod AsciiNames
 pub mod ExampleLemmas
+pub mod WorkedLemmas
 pub mod Members
 pub mod DependencyLemmas

@@ -13,7 +13,7 @@ use Rattle.document_model.specs.declared.kind.ObjectKind.{ObjectKind}
 use Rattle.document_model.specs.declared.kind.ObjectKind.TheVariants.{VarSet, Sheet, Link, Feature, Foreign}
 use Rattle.document_model.specs.Document.{Document, Object, object_named}
 use Rattle.document_model.specs.Ends.{end_of, plan_of_kind, has_bounds}
-use Rattle.document_model.specs.TypedSlots.{components}
+use Rattle.document_model.specs.TypedSlots.{components, bound_names}
 use Rattle.document_model.specs.Slots.{Rule, own, bound, inherit, global, output, rows, slot_of, rule_of}
 use Rattle.document_model.specs.Resolution.{resolve, slot_in}
 
@@ -70,10 +70,6 @@ placed_by (Foreign type) = codes "Placement"
 abbrev pub plan_inputs : Object → Slots → List Slot
 plan_inputs o plan =
     map (λ i. slot_of o (Plain i.name)) plan.inputs ++ (if plan.placed then placement_of (placed_by o.kind) o else [])
-
--- the outputs that are bounds
-abbrev pub bound_names : List (List ℕ)
-bound_names = codes "MinX" ∷ codes "MinY" ∷ codes "MinZ" ∷ codes "MaxX" ∷ codes "MaxY" ∷ codes "MaxZ" ∷ []
 
 -- the six bounds of a member, none where it is not there or has no bounds
 abbrev pub bounds_of : Document → List ℕ → List Slot

@@ -20,11 +20,12 @@ pub record Property : Type 0 where
   pub attributes : List (List ℕ)
   pub contents : List Content
 
--- A kept cell of a sheet: one with content, an alias or further attributes.
+-- A kept cell of a sheet: one with content, an alias or further attributes, which are one text: their
+-- sources joined by one space. A cell that is cleared is no longer kept, so its alias goes with it.
 pub record Cell : Type 0 where
   pub content : Option Content
   pub alias : Option (List ℕ)
-  pub attributes : List (List ℕ)
+  pub extra : List ℕ
 
 -- The foreign pieces of an object, by their places: before its properties, behind its known
 -- properties, and before the cells of a sheet.

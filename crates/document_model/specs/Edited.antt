@@ -1,26 +1,47 @@
 -- Documents with one thing changed.
-use Rattle.std.specs.Prelude.{ℕ, false, List, [], ◌∷◌, ◌++◌, map, None, if◌then◌else◌, codes}
+use Rattle.std.specs.Prelude.{ℕ, false, not, List, [], ◌∷◌, ◌++◌, map, None, if◌then◌else◌, codes}
+use Rattle.std.specs.List.{filter}
 use Rattle.object_paths.specs.declared.slot_name.SlotName.{SlotName}
+use Rattle.object_paths.specs.declared.slot_name.SlotName.TheVariants.{Plain}
 use Rattle.object_paths.specs.Slots.{Slot, same_text, same_slot_name}
+use Rattle.property_types.specs.declared.plan.InputPlan.{InputPlan}
 use Rattle.property_types.specs.declared.prop_type.PropType.{PropType}
+use Rattle.property_types.specs.Plans.{Slots}
 use Rattle.property_types.specs.Types.{zero_value}
 use Rattle.document_model.specs.declared.content.Content.{Content}
 use Rattle.document_model.specs.declared.content.Content.TheVariants.{Own}
 use Rattle.document_model.specs.declared.kind.ObjectKind.{ObjectKind}
+use Rattle.document_model.specs.declared.kind.ObjectKind.TheVariants.{VarSet, Sheet, Link, Feature, Foreign}
 use Rattle.document_model.specs.Document.{Document, Object, Property}
-use Rattle.document_model.specs.TypedSlots.{property_slots, input_slots}
+use Rattle.document_model.specs.TypedSlots.{property_slots, placement_slots, link_slots}
 
 -- a slot with zero in it
 abbrev pub zeroed : SlotName × PropType → SlotName × Content
 zeroed slot = (slot.0, Own (zero_value slot.1))
 
--- an object that is new: its kind's inputs are zero, and there is nothing else in it
+-- an input of a plan with its default in it
+abbrev pub at_default : InputPlan → SlotName × Content
+at_default i = (Plain i.name, Own i.default)
+
+-- the first inputs of a feature: the defaults of its plan, and a Placement that is zero
+abbrev pub default_inputs : Slots → List (SlotName × Content)
+default_inputs plan = map at_default plan.inputs ++ (if plan.placed then map zeroed (placement_slots (codes "Placement")) else [])
+
+-- what stands in the inputs of a new object: of a feature the defaults, of a link zero
+abbrev pub first_inputs : ObjectKind → List (SlotName × Content)
+first_inputs VarSet = []
+first_inputs Sheet = []
+first_inputs Link = map zeroed link_slots
+first_inputs (Feature plan) = default_inputs plan
+first_inputs (Foreign type) = []
+
+-- an object that is new: it has the first inputs of its kind, and nothing else is in it
 abbrev pub new_object : List ℕ → List ℕ → ObjectKind → Object
 new_object name label kind = record {
   name = name;
   label = label;
   kind = kind;
-  inputs = map zeroed (input_slots kind);
+  inputs = first_inputs kind;
   dynamics = [];
   cells = [];
   target = None;
@@ -74,3 +95,15 @@ input_with name new e = if same_slot_name e.0 name then (e.0, new) else e
 abbrev pub with_content : Document → Slot → Content → Document
 with_content d s new =
     with_changed d s.object (λ o. record o { inputs = map (input_with s.name new) o.inputs; dynamics = map (property_with s.name new) o.dynamics })
+
+-- the document without the object of that name
+abbrev pub without_object : Document → List ℕ → Document
+without_object d name = record d { objects = filter (λ (o : Object). not (same_text o.name name)) d.objects }
+
+-- an object without its dynamic property of that name
+abbrev pub without_dynamic : List ℕ → Object → Object
+without_dynamic name o = record o { dynamics = filter (λ (p : Property). not (same_text p.name name)) o.dynamics }
+
+-- the document without a dynamic property of an object
+abbrev pub without_property : Document → List ℕ → List ℕ → Document
+without_property d object name = with_changed d object (without_dynamic name)

@@ -9,6 +9,10 @@ pub mod Counts
 pub mod Limits
 pub mod Edited
 pub mod Contents
+pub mod KeptText
+pub mod ForeignProperties
 pub mod WellFormed
 pub mod Examples
 pub mod LinkedBox
+pub mod WorkedForm
+pub mod WorkedText

@@ -104,7 +104,7 @@ endless_link = record (bare_object (codes "L3") Link) {
 
 -- a cell with that content, and without alias and attributes
 abbrev pub cell_of : ℕ → ℕ → Content → Place × Cell
-cell_of column row content = (place_at column row, record { content = Some content; alias = None; attributes = [] })
+cell_of column row content = (place_at column row, record { content = Some content; alias = None; extra = [] })
 
 -- the area A1:A3, its first corner marked
 abbrev pub first_three : Tree
@@ -116,8 +116,8 @@ abbrev pub sheet : Object
 sheet = record (bare_object (codes "S") Sheet) {
   cells =
       cell_of 1 1 (Own (plain 1000000000))
-      ∷ (place_at 1 2, record { content = None; alias = Some (codes "empty"); attributes = [] })
-      ∷ (place_at 1 3, record { content = Some (Own (plain 3000000000)); alias = Some (codes "width"); attributes = [] })
+      ∷ (place_at 1 2, record { content = None; alias = Some (codes "empty"); extra = [] })
+      ∷ (place_at 1 3, record { content = Some (Own (plain 3000000000)); alias = Some (codes "width"); extra = [] })
       ∷ cell_of 1 5 (Bound first_three)
       ∷ cell_of 2 5 (Bound (binary Times (path (here (Plain (codes "width")))) (path (labelled (codes "My box") (Plain (codes "Volume"))))))
       ∷ [];

@@ -1,7 +1,7 @@
 -- Which slot a path names.
-use Rattle.std.specs.Prelude.{ℕ, false, List, Option, Some, None}
-use Rattle.std.specs.List.{find}
-use Rattle.std.specs.Option.{option_map, option_and_then, option_or, option_map_or}
+use Rattle.std.specs.Prelude.{ℕ, Bool, false, List, Option, Some, None, if◌then◌else◌}
+use Rattle.std.specs.List.{find, list_any}
+use Rattle.std.specs.Option.{option_map, option_and_then, option_map_or}
 use Rattle.fc_base.specs.Places.{Place, address_of, unmarked}
 use Rattle.object_paths.specs.declared.slot_name.SlotName.{SlotName}
 use Rattle.object_paths.specs.declared.slot_name.SlotName.TheVariants.{Plain, Component, Marked}
@@ -11,7 +11,7 @@ use Rattle.object_paths.specs.declared.path.Path.{Path}
 use Rattle.object_paths.specs.Slots.{Slot, same_text}
 use Rattle.document_model.specs.declared.kind.ObjectKind.{ObjectKind}
 use Rattle.document_model.specs.declared.kind.ObjectKind.TheVariants.{VarSet, Sheet, Link, Feature, Foreign}
-use Rattle.document_model.specs.Document.{Document, Object, Cell, object_named, object_labelled}
+use Rattle.document_model.specs.Document.{Document, Object, Property, Cell, object_named, object_labelled}
 use Rattle.document_model.specs.Slots.{rows, row_in, slot_of}
 
 -- the object whose slot a path of an object names
@@ -33,10 +33,16 @@ abbrev pub aliased_place : List (Place × Cell) → List ℕ → Option Place
 aliased_place cells name =
     option_map (λ (e : Place × Cell). e.0) (find (λ e. option_map_or (λ alias. same_text alias name) e.1.alias false) cells)
 
--- the dynamic property of that name, else the filled cell with that alias
+-- a dynamic property has that name
+abbrev pub has_dynamic : Object → List ℕ → Bool
+has_dynamic o name = list_any (λ (p : Property). same_text p.name name) o.dynamics
+
+-- the dynamic property of that name, which hides every alias; else the filled cell with that alias. A
+-- placement has components alone, so its plain name names no slot
 abbrev pub named_slot : Document → Object → List ℕ → Option Slot
 named_slot d sheet name =
-    option_or (slot_in d sheet (Plain name)) (option_and_then (cell_slot d sheet) (aliased_place sheet.cells name))
+    if has_dynamic sheet name then slot_in d sheet (Plain name)
+    else option_and_then (cell_slot d sheet) (aliased_place sheet.cells name)
 
 -- a plain name on a sheet is the cell of that address, or else the property or cell of that name
 abbrev pub plain_slot : Document → Object → List ℕ → Option Place → Option Slot

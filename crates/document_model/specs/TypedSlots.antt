@@ -67,3 +67,7 @@ mirrored_by o (Foreign type) = []
 
 abbrev pub mirrored_slots : Object → List (SlotName × PropType)
 mirrored_slots o = mirrored_by o o.kind
+
+-- the outputs that are bounds
+abbrev pub bound_names : List (List ℕ)
+bound_names = codes "MinX" ∷ codes "MinY" ∷ codes "MinZ" ∷ codes "MaxX" ∷ codes "MaxY" ∷ codes "MaxZ" ∷ []

@@ -5,6 +5,8 @@ ghost use Rattle.document_model.specs.Document.{Document};
 ghost use Rattle.document_model.specs.Examples.{OneVarsetWorks};
 ghost use Rattle.document_model.specs.LinkedBox.{LinkedBoxWorks};
 ghost use Rattle.document_model.specs.Slots.{slots};
+ghost use Rattle.document_model.specs.WorkedForm.{CountsWork, EditsWork, KindsWork, TypesWork};
+ghost use Rattle.document_model.specs.WorkedText.{AttributesWork, ForeignPropertiesWork, PiecesWork};
 
 /// A document with one property has its slot, its rule and its path, and is well-formed.
 pub fn one_varset_works()
@@ -19,4 +21,21 @@ pub fn linked_box_works()
 /// What depends on others depends on slots of the document alone, in every document.
 pub fn dependencies_are_slots()
     ensures { (d : Document) → Closed (deps d) (slots d) }
+{}
+
+/// Types have their kinds, new objects their first inputs, slots their types, and documents their
+/// counts.
+pub fn forms_work()
+    ensures kinds { KindsWork }
+    ensures edits { EditsWork }
+    ensures counts { CountsWork }
+    ensures types { TypesWork }
+{}
+
+/// Attributes and pieces of a document's text are kept where they are read again at their place, and
+/// are not where they would be read as something else.
+pub fn kept_text_works()
+    ensures attributes { AttributesWork }
+    ensures pieces { PiecesWork }
+    ensures properties { ForeignPropertiesWork }
 {}

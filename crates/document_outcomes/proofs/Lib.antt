@@ -7,7 +7,9 @@ pub mod FixpointLemmas
 pub mod FullLemmas
 pub mod SearchLemmas
 pub mod FaultLemmas
+pub mod LimitLemmas
 pub mod WorkedLemmas
+pub mod WorkedMoreLemmas
 pub mod OrderLemmas
 pub mod GivenLemmas
 pub mod RowLemmas

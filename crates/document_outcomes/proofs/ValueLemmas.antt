@@ -309,4 +309,5 @@ pub no_features-sound : GivesSorts no_features
 no_features-sound = record {
   gives = λ plan inputs k out v at h. let e = numbered-none k in absurd (cc);
   composed = λ mine target k v h. absurd (cc);
+  together = λ mine target k other f h. refl;
 }

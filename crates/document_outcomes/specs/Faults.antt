@@ -19,7 +19,7 @@ use Rattle.document_model.specs.Ends.{end_of, has_bounds}
 use Rattle.document_model.specs.Resolution.{resolve}
 use Rattle.document_model.specs.Slots.{Rule, own, bound, inherit, global, output, Row, rows, slots, slot_of, type_of, rule_of}
 use Rattle.document_model.specs.TypedSlots.{mirrored_slots}
-use Rattle.document_model.specs.WellFormed.{is_sheet}
+use Rattle.document_model.specs.Kinds.{is_sheet}
 use Rattle.document_outcomes.specs.Cycles.{is_cyclic, leads_back}
 use Rattle.document_outcomes.specs.Limits.{has_too_many, has_too_large}
 use Rattle.document_outcomes.specs.RefusalNumbers.{label_taken, out_of_range, unknown_reference, cycle, unit_mismatch, kind_mismatch, exponent_range, link_kind, too_many}

@@ -27,8 +27,9 @@ use Rattle.document_model.specs.Dependencies.{slot_reached, cells_reached, deps}
 pub record Meanings : Type 0 where
   -- the outcomes of a plan's outputs, in their order, by the values of its input list
   pub gives : Slots → List Value → List Outcome
-  -- a part of the first placement, moved and turned by the second; each is its four parts in order
-  pub composed : List Value → List Value → c.Component → Outcome
+  -- a part of a link's own placement after that of its target, which is moved and turned by the own one;
+  -- each is its four parts in order. Where a coordinate leaves the bound of amounts, all four are Range
+  pub composed : (own target : List Value) → c.Component → Outcome
 
 -- what a slot that is named has. A fault stands where none is named, and nothing rests on it
 abbrev pub at_slot : (Slot → Outcome) → Option Slot → Outcome

@@ -7,7 +7,10 @@ pub mod Faults
 pub mod NoFault
 pub mod Typed
 pub mod Called
+pub mod LimitsPassed
 pub mod WorkedParts
 pub mod WorkedNumbers
 pub mod WorkedFaults
 pub mod WorkedLinks
+pub mod WorkedMembers
+pub mod WorkedOrder

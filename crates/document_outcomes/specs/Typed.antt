@@ -21,7 +21,7 @@ use Rattle.document_outcomes.specs.Full.{Meanings, numbered, reading, full}
 use Rattle.document_outcomes.specs.Sorts.{sort}
 
 -- What features give has the sorts of their outputs, and what placements compose has those of the
--- parts of a placement.
+-- parts of a placement, or is Range in all four parts.
 pub record GivesSorts (m : Meanings) : Type 0 where
   pub gives :
       (plan : Slots) (inputs : List Value) (k : ℕ) (out : OutputPlan) (v : Value)
@@ -29,6 +29,9 @@ pub record GivesSorts (m : Meanings) : Type 0 where
   pub composed :
       (own target : List Value) (k : c.Component) (v : Value)
       → m.composed own target k ≡ Ok v → sort_of_value v ≡ sort_of_type (type_of_component k)
+  pub together :
+      (own target : List Value) (k other : c.Component) (f : ValueFault)
+      → m.composed own target k ≡ Err f → m.composed own target other ≡ Err Range
 
 -- no features, and placements that do not compose
 abbrev pub no_features : Meanings

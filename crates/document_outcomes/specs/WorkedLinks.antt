@@ -27,8 +27,8 @@ sheet_with first =
     record (bare_object (codes "S") Sheet) {
       cells =
           cell_of 1 1 first
-          ∷ (place_at 1 2, record { content = None; alias = Some (codes "empty"); attributes = [] })
-          ∷ (place_at 1 3, record { content = Some (Own (whole 3)); alias = Some (codes "width"); attributes = [] })
+          ∷ (place_at 1 2, record { content = None; alias = Some (codes "empty"); extra = [] })
+          ∷ (place_at 1 3, record { content = Some (Own (whole 3)); alias = Some (codes "width"); extra = [] })
           ∷ cell_of 1 5 (Bound first_three)
           ∷ cell_of 2 5 (Bound (binary Times (its (codes "width")) (numeral 2)))
           ∷ [];

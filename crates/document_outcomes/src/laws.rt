@@ -10,12 +10,15 @@ ghost use Rattle.document_model.specs.Slots.{inherit, rule_of, slots};
 ghost use Rattle.document_outcomes.specs.Cycles.{HasNoCycle, OrdersSlots, is_cyclic, leads_back, targets};
 ghost use Rattle.document_outcomes.specs.Faults.{IsValid};
 ghost use Rattle.document_outcomes.specs.Full.{Meanings, full, local};
+ghost use Rattle.document_outcomes.specs.LimitsPassed.{LimitsAreExact};
 ghost use Rattle.document_outcomes.specs.NoFault.{HasNoFault};
 ghost use Rattle.document_outcomes.specs.Sorts.{local_sort, sort};
 ghost use Rattle.document_outcomes.specs.Typed.{NoSlotHasWrongOperands, OutcomesHaveSorts, SortsCanBeGiven};
 ghost use Rattle.document_outcomes.specs.WorkedFaults.{FirstFaultsWork};
 ghost use Rattle.document_outcomes.specs.WorkedLinks.{FeaturesWork, LinkFaultsWork, LinksWork, SheetWorks};
+ghost use Rattle.document_outcomes.specs.WorkedMembers.{EntriesWork, HiddenAliasesWork, MembersWork, PlacementsWork};
 ghost use Rattle.document_outcomes.specs.WorkedNumbers.{ChainWorks, FaultedWorks};
+ghost use Rattle.document_outcomes.specs.WorkedOrder.{KindsOfFaultsWork, ReferenceFaultsWork, SortFaultsWork};
 
 /// A slot that a link inherits depends on the target's slot of its name, which is there, and on
 /// nothing else; in every document.
@@ -125,4 +128,27 @@ pub fn sheets_and_links_work()
 /// have changed.
 pub fn features_work()
     ensures { FeaturesWork }
+{}
+
+/// One more object, slot, node or dependency than a document may have is its first fault, and as many
+/// as it may have are none.
+pub fn limits_are_passed_by_one()
+    ensures { (d : Document) → LimitsAreExact d }
+{}
+
+/// Where two faults meet, the kinds of faults come in their order; of unknown references those of an
+/// object come in theirs.
+pub fn faults_come_in_order()
+    ensures kinds { KindsOfFaultsWork }
+    ensures references { ReferenceFaultsWork }
+    ensures sorts { SortFaultsWork }
+{}
+
+/// Compounds read the bounds of their members in order, entries differ by object, plan and values, a
+/// property hides an alias of its name, and a link stands after its target.
+pub fn members_and_names_work()
+    ensures members { MembersWork }
+    ensures entries { EntriesWork }
+    ensures aliases { HiddenAliasesWork }
+    ensures placements { PlacementsWork }
 {}

@@ -1,0 +1,119 @@
+-- The worked forms and texts hold by computation.
+use Rattle.std.proofs.Common.{refl, [], ◌∷◌}
+use Rattle.std.specs.Prelude.{codes}
+use Rattle.std.specs.Fmt.{digits}
+use Rattle.std.specs.Str.{is_utf8, chars}
+use lib.Utf8.{encode}
+use Rattle.fc_base.specs.Places.{address_of, address_text}
+use Rattle.fcxml_profile.specs.Fronts.{after, behind, split_at, quoted_at}
+use Rattle.fcxml_profile.specs.Items.{attribute_at, attribute_behind_blanks, attributes_within, tag_at, end_tag_at, markup_at, item_at, items_within}
+use Rattle.fcxml_profile.specs.References.{replacement_of, reference_at, read_within}
+use Rattle.fcxml_profile.specs.Standing.{repeated_behind}
+use Rattle.document_model.specs.Dependencies.{deps}
+use Rattle.document_model.specs.Resolution.{resolve}
+use Rattle.document_model.specs.WorkedForm.{KindsWork, EditsWork, CountsWork, TypesWork}
+use Rattle.document_model.specs.WorkedText.{AttributesWork, PiecesWork, ForeignPropertiesWork}
+
+pub kinds_work : KindsWork
+kinds_work = record {
+  var_set = refl;
+  sheet = refl;
+  link = refl;
+  feature = refl;
+  foreign = refl;
+  types = refl;
+  known = refl;
+  bounds = refl;
+}
+
+pub edits_work : EditsWork
+edits_work = record {
+  box = refl;
+  link = refl;
+  label = refl;
+  placement = refl;
+  input = refl;
+  other_input = refl;
+  property = refl;
+}
+
+pub counts_work : CountsWork
+unfolding resolve deps address_of address_text digits
+counts_work = record {
+  expressions = refl;
+  slots = refl;
+  nodes = refl;
+  dependencies = refl;
+}
+
+pub types_work : TypesWork
+types_work = record {
+  part = refl;
+  turn = refl;
+  transform = refl;
+  bound = refl;
+}
+
+pub attributes_work : AttributesWork
+unfolding after behind split_at quoted_at attribute_at is_utf8 chars encode
+attributes_work = record {
+  one = refl;
+  with_blanks = refl;
+  with_markup = refl;
+  with_more = refl;
+  with_control = refl;
+  ill_formed = refl;
+  kept = refl;
+  twice = refl;
+  id = refl;
+  type_of_object = refl;
+  type_of_property = refl;
+  schema = refl;
+  alias = refl;
+  joined = record { sources = codes "a=\"1 2\"" ∷ codes "b='3'" ∷ []; joined = refl; attributes = refl };
+}
+
+pub pieces_work : PiecesWork
+unfolding after behind split_at quoted_at attribute_at attribute_behind_blanks attributes_within tag_at end_tag_at markup_at item_at items_within repeated_behind
+pieces_work = record {
+  empty = refl;
+  full = refl;
+  cut_off = refl;
+  blank_before = refl;
+  blank_behind = refl;
+  two = refl;
+  comment = refl;
+  end_alone = refl;
+  repeated = refl;
+  control = refl;
+  objects = refl;
+  data = refl;
+  objects_elsewhere = refl;
+  properties = refl;
+  cell = refl;
+  no_cell = refl;
+  deepest = refl;
+  too_deep = refl;
+}
+
+pub foreign_properties_work : ForeignPropertiesWork
+unfolding after behind split_at quoted_at attribute_at attribute_behind_blanks attributes_within tag_at end_tag_at markup_at item_at items_within repeated_behind replacement_of reference_at read_within is_utf8 chars encode
+foreign_properties_work = record {
+  other_element = refl;
+  unnamed = refl;
+  shape = refl;
+  label = refl;
+  by_reference = refl;
+  no_reference = refl;
+  dynamic = refl;
+  of_link = refl;
+  other_type = refl;
+  untyped = refl;
+  no_type = refl;
+  type_not_read = refl;
+  reserved = refl;
+  address = refl;
+  no_address = refl;
+  input = refl;
+  no_input = refl;
+}
