@@ -4,6 +4,7 @@ use Rattle.std.specs.Prelude.{codes}
 use Rattle.std.specs.Fmt.{digits}
 use Rattle.std.specs.Str.{is_utf8, chars}
 use lib.Utf8.{encode}
+use Rattle.unicode_ident.proofs.Computing.{unicode_ident}
 use Rattle.fc_base.specs.Places.{address_of, address_text}
 use Rattle.fcxml_profile.specs.Fronts.{after, behind, split_at, quoted_at}
 use Rattle.fcxml_profile.specs.Items.{attribute_at, attribute_behind_blanks, attributes_within, tag_at, end_tag_at, markup_at, item_at, items_within}
@@ -74,7 +75,7 @@ attributes_work = record {
 }
 
 pub pieces_work : PiecesWork
-unfolding after behind split_at quoted_at attribute_at attribute_behind_blanks attributes_within tag_at end_tag_at markup_at item_at items_within repeated_behind
+unfolding after behind split_at quoted_at attribute_at attribute_behind_blanks attributes_within tag_at end_tag_at markup_at item_at items_within repeated_behind is_utf8 chars encode
 pieces_work = record {
   empty = refl;
   full = refl;
@@ -87,7 +88,7 @@ pieces_work = record {
   repeated = refl;
   control = refl;
   objects = refl;
-  data = refl;
+  object_data = refl;
   objects_elsewhere = refl;
   properties = refl;
   cell = refl;
@@ -97,7 +98,7 @@ pieces_work = record {
 }
 
 pub foreign_properties_work : ForeignPropertiesWork
-unfolding after behind split_at quoted_at attribute_at attribute_behind_blanks attributes_within tag_at end_tag_at markup_at item_at items_within repeated_behind replacement_of reference_at read_within is_utf8 chars encode
+unfolding after behind split_at quoted_at attribute_at attribute_behind_blanks attributes_within tag_at end_tag_at markup_at item_at items_within repeated_behind replacement_of reference_at read_within is_utf8 chars encode unicode_ident address_of address_text digits
 foreign_properties_work = record {
   other_element = refl;
   unnamed = refl;

@@ -1,15 +1,16 @@
 -- What is kept as it was written: further attributes and foreign pieces of a document's text.
-use Rattle.std.specs.Prelude.{ℕ, Bool, true, false, ◌==◌, ◌&&◌, not, nat_lt, List, [], ◌∷◌, ◌++◌, map, length, replicate, Option, Some, None, is_some, is_none, IsTrue, if◌then◌else◌, codes}
-use Rattle.std.specs.List.{list_all, filter_map, join_with_byte}
+use Rattle.std.specs.Prelude.{◌≡◌, ℕ, Bool, true, false, ◌==◌, ◌&&◌, not, nat_lt, List, [], ◌∷◌, ◌++◌, map, length, replicate, Option, Some, None, is_some, IsTrue, if◌then◌else◌, codes}
+use Rattle.std.specs.List.{list_all, list_any, filter_map, join_with_byte}
 use Rattle.std.specs.Option.{option_map, option_and_then, option_map_or}
-use Rattle.fcxml_profile.specs.Faults.{character_fault}
+use Rattle.std.specs.Str.{is_utf8}
+use Rattle.fcxml_profile.specs.Faults.{is_forbidden}
 use Rattle.fcxml_profile.specs.Items.{Attribute, Tag, Item, declaration, comment, opening, closing, run, attribute_at, item_at, items_at}
 use Rattle.fcxml_profile.specs.Standing.{Standing, may_stand, behind_item}
 use Rattle.property_types.specs.Reserved.{are_distinct, is_among}
 
 -- well-formed UTF-8 without control characters that XML forbids
 abbrev pub is_xml_text : List ℕ → Bool
-is_xml_text bytes = is_none (character_fault bytes)
+is_xml_text bytes = is_utf8 bytes && not (list_any is_forbidden bytes)
 
 -- nothing
 abbrev pub is_nothing : {A : Type 0} → List A → Bool

@@ -61,7 +61,7 @@ pub record CountsWork : Type 0 where
   pub expressions : length (expressions linked_box) ≡ 3
   pub slots : slots_and_empty_cells linked_box ≡ 69
   pub nodes : nodes_of_document linked_box ≡ 7
-  pub dependencies : dependencies_of_document linked_box ≡ 0
+  pub dependencies : dependencies_of_document linked_box ≡ 266
 
 -- the types of a placement's parts and of a box's slots
 pub record TypesWork : Type 0 where

@@ -36,7 +36,7 @@ pub record PiecesWork : Type 0 where
   pub repeated : is_document_piece (codes "<a b=\"1\" b=\"2\"/>") ≡ false
   pub control : is_document_piece (codes "<a>" ++ 1 ∷ codes "</a>") ≡ false
   pub objects : is_document_piece (codes "<Objects/>") ≡ false
-  pub data : is_document_piece (codes "<ObjectData/>") ≡ false
+  pub object_data : is_document_piece (codes "<ObjectData/>") ≡ false
   pub objects_elsewhere : is_object_piece (codes "<Objects/>") ≡ true
   pub properties : is_object_piece (codes "<Properties/>") ≡ false
   pub cell : is_cells_piece (codes "<Cell/>") ≡ false
