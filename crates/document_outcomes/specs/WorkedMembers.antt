@@ -43,14 +43,17 @@ low_box = record (bare_object (codes "Low") (Feature box_plan)) {
 abbrev pub gathered : List ℕ → List (List ℕ) → Document
 gathered first others = document_of (box ∷ low_box ∷ link_to (codes "L") (codes "Low") [] ∷ compound (codes "C") first others ∷ [])
 
--- the fifth input of a compound is the MinX of its first member, the eleventh that of its second; each
--- feature here gives its inputs as outputs, and so the MinX of a box is its Height. A link is a member
--- too, and what has no bounds is none
+-- features that give their inputs twice, so that a box has all its outputs
+abbrev pub twice : Meanings
+twice = record { gives = λ plan inputs. map Ok (inputs ++ inputs); composed = λ own target k. part_of target k }
+
+-- the fifth input of a compound is the MinX of its first member, the eleventh that of its second; here the
+-- MinX of a box is its Height. A link is a member too, and what has no bounds is none
 pub record MembersWork : Type 0 where
-  pub first : full echo (gathered (codes "Box") (codes "Low" ∷ [])) (named (codes "C") (codes "MaxY")) ≡ Ok (mm 6600000000)
-  pub other : full echo (gathered (codes "Low") (codes "Box" ∷ [])) (named (codes "C") (codes "MaxY")) ≡ Ok (mm 1000000000)
-  pub link : full echo (gathered (codes "L") []) (named (codes "C") (codes "MaxY")) ≡ Ok (mm 1000000000)
-  pub second : map (λ (e : Entry). slice_get e.inputs 10) (called echo [] (gathered (codes "Box") (codes "Low" ∷ []))) ≡ None ∷ None ∷ None ∷ Some (mm 1000000000) ∷ []
+  pub first : full twice (gathered (codes "Box") (codes "Low" ∷ [])) (named (codes "C") (codes "MaxY")) ≡ Ok (mm 6600000000)
+  pub other : full twice (gathered (codes "Low") (codes "Box" ∷ [])) (named (codes "C") (codes "MaxY")) ≡ Ok (mm 1000000000)
+  pub link : full twice (gathered (codes "L") []) (named (codes "C") (codes "MaxY")) ≡ Ok (mm 1000000000)
+  pub second : map (λ (e : Entry). slice_get e.inputs 10) (called twice [] (gathered (codes "Box") (codes "Low" ∷ []))) ≡ None ∷ None ∷ None ∷ Some (mm 1000000000) ∷ []
   pub valid : first_fault (gathered (codes "Box") (codes "L" ∷ [])) ≡ None
   pub no_bounds : first_fault (document_of (target ∷ compound (codes "C") (codes "V") [] ∷ [])) ≡ Some (found 23 (codes "C"))
 
@@ -102,10 +105,10 @@ millimetres n = Ok (Number (record { amount = n; unit = unit_of (pos 1) (pos 0) 
 
 -- what a placement that is turned a quarter about z, from x to y, makes of one that is turned so too
 abbrev pub after_quarter : List Value → List Value → c.Component → Outcome
-after_quarter own target X = millimetres (amount_in own X -ℤ amount_in target Y)
-after_quarter own target Y = millimetres (amount_in own Y +ℤ amount_in target X)
-after_quarter own target Z = millimetres (amount_in own Z +ℤ amount_in target Z)
-after_quarter own target Turn = Ok (plain 2000000000)
+after_quarter own first X = millimetres (amount_in own X -ℤ amount_in first Y)
+after_quarter own first Y = millimetres (amount_in own Y +ℤ amount_in first X)
+after_quarter own first Z = millimetres (amount_in own Z +ℤ amount_in first Z)
+after_quarter own first Turn = Ok (plain 2000000000)
 
 abbrev pub quarters : Meanings
 quarters = record { gives = λ plan inputs. map Ok inputs; composed = after_quarter }
