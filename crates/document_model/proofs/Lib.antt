@@ -1,5 +1,6 @@
 pub mod AsciiNames
 pub mod ExampleLemmas
 pub mod WorkedLemmas
+pub mod WorkedObjectLemmas
 pub mod Members
 pub mod DependencyLemmas

@@ -58,7 +58,7 @@ link_slots_read o Link = slot_of o (Plain (codes "LinkTransform")) ∷ global_sl
 link_slots_read o (Feature plan) = []
 link_slots_read o (Foreign type) = []
 
--- where the inputs of an object stand: of a feature in its Placement, of a link in the document
+-- the placement in the input list of an object, by its name
 abbrev pub placed_by : ObjectKind → List ℕ
 placed_by VarSet = codes "Placement"
 placed_by Sheet = codes "Placement"

@@ -14,7 +14,7 @@ use Rattle.document_model.specs.KeptText.{is_piece, is_other}
 abbrev pub meaning_of : List ℕ → Tag → Option (Result (List ℕ) ℕ)
 meaning_of name t = option_map read (value_named name t.attributes)
 
--- no type of a property; what cannot be read is a fault, and no such type
+-- no type of a property; where it cannot be read that is a fault, and the property is not foreign
 abbrev pub is_no_type : Option (Result (List ℕ) ℕ) → Bool
 is_no_type None = true
 is_no_type (Some (Ok type)) = is_none (type_named type)

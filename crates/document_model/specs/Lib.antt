@@ -16,3 +16,4 @@ pub mod Examples
 pub mod LinkedBox
 pub mod WorkedForm
 pub mod WorkedText
+pub mod WorkedObjects

@@ -32,7 +32,7 @@ use Rattle.document_model.specs.Examples.{bare_object, document_of}
 abbrev pub place_at : ℕ → ℕ → Place
 place_at column row = record { column = column; row = row; fixed_column = false; fixed_row = false }
 
--- millimetres, and pure numbers
+-- so many billionths of a millimetre, and of one
 abbrev pub mm : ℕ → Value
 mm n = Number (record { amount = pos n; unit = unit_of (pos 1) (pos 0) (pos 0) (pos 0) })
 

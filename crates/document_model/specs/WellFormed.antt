@@ -20,7 +20,7 @@ use Rattle.document_model.specs.declared.content.Content.TheVariants.{Own}
 use Rattle.document_model.specs.declared.kind.ObjectKind.{ObjectKind}
 use Rattle.document_model.specs.declared.kind.ObjectKind.TheVariants.{VarSet, Sheet, Link, Feature, Foreign}
 use Rattle.document_model.specs.Document.{Document, Object, Property, Cell, Pieces}
-use Rattle.document_model.specs.Kinds.{has_dynamics, has_members, is_dynamic_name, is_link, is_sheet, known_names, names_of_kind}
+use Rattle.document_model.specs.Kinds.{FollowsPlans, has_dynamics, has_members, is_dynamic_name, is_link, is_sheet, known_names, names_of_kind}
 use Rattle.document_model.specs.TypedSlots.{bound_names, property_slots, input_slots}
 use Rattle.document_model.specs.Contents.{is_attribute_text, IsContent, IsCellContent, IsContentOf, AreContents, AreInputs}
 use Rattle.document_model.specs.KeptText.{are_attributes, IsExtra, document_attributes, object_attributes, property_attributes, cell_attributes, is_document_piece, is_object_piece, is_cells_piece}
@@ -31,7 +31,7 @@ abbrev pub is_distance : PropType → Bool
 is_distance Distance = true
 is_distance _ = false
 
--- the type of a foreign object: 1 to 128 bytes, and no type of another kind
+-- the type of a foreign object: 1 to 128 bytes, and none of the three own types
 abbrev pub is_foreign_type : List ℕ → Bool
 is_foreign_type type = is_text_value type && nat_lt 0 (length type) && nat_le (length type) 128 && not (is_among type own_types)
 
@@ -43,11 +43,13 @@ is_bound name out = same_text out.name name && is_distance out.prop
 abbrev pub has_its_bounds : Slots → Bool
 has_its_bounds plan = not plan.placed || list_all (λ name. list_any (is_bound name) plan.outputs) bound_names
 
--- A sound plan, whose defaults are values of the inputs' types, and with bounds where it is placed.
+-- A sound plan, whose defaults are values of the inputs' types, with bounds where it is placed, and placed where
+-- it has members.
 pub record IsPlan (plan : Slots) : Type 0 where
   pub sound : IsSound plan
   pub defaults : AllByRecursion (λ (i : InputPlan). IsContentOf i.prop (Own i.default)) plan.inputs
   pub bounds : IsTrue (has_its_bounds plan)
+  pub members : IsTrue (not plan.members || plan.placed)
 
 -- a feature has such a plan
 abbrev pub IsKind : ObjectKind → Type 0
@@ -161,3 +163,7 @@ pub record IsWellFormed (d : Document) : Type 0 where
   pub before : IsTrue (list_all is_document_piece d.before)
   pub between : IsTrue (list_all is_document_piece d.between)
   pub after : IsTrue (list_all is_document_piece d.after)
+
+-- a document of the product with these plans: the kind of each object is that of its type
+abbrev pub IsDocumentOf : List Slots → Document → Type 0
+IsDocumentOf plans d = IsWellFormed d × FollowsPlans plans d

@@ -1,4 +1,4 @@
--- Kinds, new objects, counts and forms, worked out.
+-- Kinds, new objects, counts and types, worked out.
 use Rattle.std.specs.Prelude.{◌≡◌, ℕ, pos, true, false, Bool, List, [], ◌∷◌, ◌++◌, map, length, Option, Some, None, codes}
 use Rattle.object_paths.specs.declared.slot_name.SlotName.TheVariants.{Plain, Component}
 use Rattle.object_paths.specs.declared.slot_name.Component.TheVariants.{Turn, X}

@@ -6,7 +6,7 @@ use Rattle.document_model.specs.KeptText.{is_attribute, are_attributes, is_piece
 use Rattle.document_model.specs.LinkedBox.{box_plan}
 
 -- an attribute is a whole one, of characters that XML allows; of those kept none stands twice, none is
--- read elsewhere, and none is called `id`
+-- one that is read of its element, and none is called `id`
 pub record AttributesWork : Type 0 where
   pub one : is_attribute (codes "status=\"1\"") ≡ true
   pub with_blanks : is_attribute (codes "a = 'x>\"y'") ≡ true

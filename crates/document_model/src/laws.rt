@@ -6,6 +6,7 @@ ghost use Rattle.document_model.specs.Examples.{OneVarsetWorks};
 ghost use Rattle.document_model.specs.LinkedBox.{LinkedBoxWorks};
 ghost use Rattle.document_model.specs.Slots.{slots};
 ghost use Rattle.document_model.specs.WorkedForm.{CountsWork, EditsWork, KindsWork, TypesWork};
+ghost use Rattle.document_model.specs.WorkedObjects.{IllFormedObjectsWork, IllFormedPartsWork, WellFormedObjectsWork};
 ghost use Rattle.document_model.specs.WorkedText.{AttributesWork, ForeignPropertiesWork, PiecesWork};
 
 /// A document with one property has its slot, its rule and its path, and is well-formed.
@@ -38,4 +39,11 @@ pub fn kept_text_works()
     ensures attributes { AttributesWork }
     ensures pieces { PiecesWork }
     ensures properties { ForeignPropertiesWork }
+{}
+
+/// Objects of each kind are well-formed, and others are not, each for one thing in it.
+pub fn well_formed_objects_work()
+    ensures well_formed { WellFormedObjectsWork }
+    ensures objects { IllFormedObjectsWork }
+    ensures parts { IllFormedPartsWork }
 {}
