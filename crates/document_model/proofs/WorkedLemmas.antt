@@ -13,7 +13,7 @@ use Rattle.fcxml_profile.specs.Standing.{repeated_behind}
 use Rattle.document_model.specs.Dependencies.{deps}
 use Rattle.document_model.specs.Resolution.{resolve}
 use Rattle.document_model.specs.WorkedForm.{KindsWork, EditsWork, CountsWork, TypesWork}
-use Rattle.document_model.specs.WorkedText.{AttributesWork, PiecesWork, ForeignPropertiesWork}
+use Rattle.document_model.specs.WorkedText.{AttributesWork, PiecesWork, ForeignPropertiesWork, PlacesWork}
 
 pub kinds_work : KindsWork
 kinds_work = record {
@@ -117,4 +117,25 @@ foreign_properties_work = record {
   no_address = refl;
   input = refl;
   no_input = refl;
+}
+
+pub places_work : PlacesWork
+unfolding after behind split_at quoted_at attribute_at attribute_behind_blanks attributes_within tag_at end_tag_at markup_at item_at items_within repeated_behind replacement_of reference_at read_within is_utf8 chars encode unicode_ident address_of address_text digits
+places_work = record {
+  in_document = refl;
+  below_document = refl;
+  in_object = refl;
+  below_object = refl;
+  in_properties = refl;
+  below_properties = refl;
+  in_cells = refl;
+  below_cells = refl;
+  read_of_object = refl;
+  read_of_property = refl;
+  read_of_cell = refl;
+  dynamic_of_sheet = refl;
+  dynamic_of_box = refl;
+  output = refl;
+  output_without_group = refl;
+  no_cell = refl;
 }

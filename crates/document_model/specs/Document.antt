@@ -27,7 +27,7 @@ pub record Cell : Type 0 where
   pub alias : Option (List ℕ)
   pub extra : List ℕ
 
--- The foreign pieces of an object, by their places: before its properties, behind its known
+-- The foreign pieces of an object, by their places: before its properties, behind all its
 -- properties, and before the cells of a sheet.
 pub record Pieces : Type 0 where
   pub in_object : List (List ℕ)

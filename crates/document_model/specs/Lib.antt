@@ -17,3 +17,4 @@ pub mod LinkedBox
 pub mod WorkedForm
 pub mod WorkedText
 pub mod WorkedObjects
+pub mod WorkedRows

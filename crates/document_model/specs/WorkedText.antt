@@ -1,5 +1,5 @@
 -- Attributes and pieces of text that are kept, and some that are not, worked out.
-use Rattle.std.specs.Prelude.{◌≡◌, ℕ, true, false, List, [], ◌∷◌, ◌++◌, codes}
+use Rattle.std.specs.Prelude.{◌≡◌, ℕ, zero, suc, true, false, List, [], ◌∷◌, ◌++◌, map, codes}
 use Rattle.document_model.specs.declared.kind.ObjectKind.TheVariants.{VarSet, Sheet, Link, Feature, Foreign}
 use Rattle.document_model.specs.ForeignProperties.{is_properties_piece}
 use Rattle.document_model.specs.KeptText.{is_attribute, are_attributes, is_piece, is_document_piece, is_object_piece, is_cells_piece, IsExtra, document_attributes, object_attributes, property_attributes, cell_attributes}
@@ -63,3 +63,31 @@ pub record ForeignPropertiesWork : Type 0 where
   pub no_address : is_properties_piece VarSet (codes "<Property name=\"A1\" type=\"App::PropertyFloat\" group=\"Base\"/>") ≡ false
   pub input : is_properties_piece (Feature box_plan) (codes "<Property name=\"Length\"/>") ≡ false
   pub no_input : is_properties_piece VarSet (codes "<Property name=\"Length\"/>") ≡ true
+
+-- an element with so many inside one another
+abbrev pub nested : ℕ → List ℕ
+nested zero = codes "<a/>"
+nested (suc n) = codes "<a>" ++ nested n ++ codes "</a>"
+
+-- at each place a piece may be as deep as the elements round it leave room; what is read of an element is
+-- not kept besides; a feature and a sheet have dynamic properties too
+pub record PlacesWork : Type 0 where
+  pub in_document : is_document_piece (nested 62) ≡ true
+  pub below_document : is_document_piece (nested 63) ≡ false
+  pub in_object : is_object_piece (nested 60) ≡ true
+  pub below_object : is_object_piece (nested 61) ≡ false
+  pub in_properties : is_properties_piece VarSet (nested 59) ≡ true
+  pub below_properties : is_properties_piece VarSet (nested 60) ≡ false
+  pub in_cells : is_cells_piece (nested 57) ≡ true
+  pub below_cells : is_cells_piece (nested 58) ≡ false
+  pub read_of_object : are_attributes object_attributes (codes "name='x'" ∷ []) ≡ false
+  pub read_of_property :
+      map (λ source. are_attributes property_attributes (source ∷ []))
+      (codes "name='x'" ∷ codes "group='x'" ∷ codes "doc='x'" ∷ codes "ro='1'" ∷ codes "hide='1'" ∷ [])
+      ≡ false ∷ false ∷ false ∷ false ∷ false ∷ []
+  pub read_of_cell : map (λ source. are_attributes cell_attributes (source ∷ [])) (codes "address='A1'" ∷ codes "content='1'" ∷ []) ≡ false ∷ false ∷ []
+  pub dynamic_of_sheet : is_properties_piece Sheet (codes "<Property name=\"x\" type=\"App::PropertyFloat\" group=\"Base\"/>") ≡ false
+  pub dynamic_of_box : is_properties_piece (Feature box_plan) (codes "<Property name=\"x\" type=\"App::PropertyFloat\" group=\"Base\"/>") ≡ false
+  pub output : is_properties_piece (Feature box_plan) (codes "<Property name=\"Volume\" type=\"App::PropertyFloat\" group=\"Base\"/>") ≡ false
+  pub output_without_group : is_properties_piece (Feature box_plan) (codes "<Property name=\"Volume\"/>") ≡ true
+  pub no_cell : is_properties_piece Sheet (codes "<Property name=\"A0\" type=\"App::PropertyFloat\" group=\"Base\"/>") ≡ true

@@ -7,7 +7,8 @@ ghost use Rattle.document_model.specs.LinkedBox.{LinkedBoxWorks};
 ghost use Rattle.document_model.specs.Slots.{slots};
 ghost use Rattle.document_model.specs.WorkedForm.{CountsWork, EditsWork, KindsWork, TypesWork};
 ghost use Rattle.document_model.specs.WorkedObjects.{IllFormedObjectsWork, IllFormedPartsWork, WellFormedObjectsWork};
-ghost use Rattle.document_model.specs.WorkedText.{AttributesWork, ForeignPropertiesWork, PiecesWork};
+ghost use Rattle.document_model.specs.WorkedRows.{CompoundsWork, RemovalsWork, SheetsWork, UnplacedWork};
+ghost use Rattle.document_model.specs.WorkedText.{AttributesWork, ForeignPropertiesWork, PiecesWork, PlacesWork};
 
 /// A document with one property has its slot, its rule and its path, and is well-formed.
 pub fn one_varset_works()
@@ -39,6 +40,7 @@ pub fn kept_text_works()
     ensures attributes { AttributesWork }
     ensures pieces { PiecesWork }
     ensures properties { ForeignPropertiesWork }
+    ensures places { PlacesWork }
 {}
 
 /// Objects of each kind are well-formed, and others are not, each for one thing in it.
@@ -46,4 +48,13 @@ pub fn well_formed_objects_work()
     ensures well_formed { WellFormedObjectsWork }
     ensures objects { IllFormedObjectsWork }
     ensures parts { IllFormedPartsWork }
+{}
+
+/// Features that are not placed, compounds, sheets and links to them have their slots, paths and
+/// dependencies, and removals take one thing out.
+pub fn rows_work()
+    ensures unplaced { UnplacedWork }
+    ensures compounds { CompoundsWork }
+    ensures sheets { SheetsWork }
+    ensures removals { RemovalsWork }
 {}
