@@ -53,6 +53,11 @@ unfolding first_fault
 first_past d true e h = rw e refl
 first_past d false e h = absurd (cc)
 
+first_large : (d : Document) (many : Bool) → has_too_many d ≡ many → has_too_large d ≡ true → first_fault d ≡ Some (record { number = too_many; subject = [] })
+unfolding first_fault
+first_large d true e large = rw e refl
+first_large d false e large = rw (e, large) refl
+
 within_limits : (d : Document) (many : Bool) → has_too_many d ≡ many → many ≡ false → has_too_large d ≡ false → first_fault d ≡ fault_within_limits d
 unfolding first_fault
 within_limits d true e h large = absurd (cc)
@@ -66,5 +71,6 @@ pub limits_are_exact : (d : Document) → LimitsAreExact d
 limits_are_exact d = record {
   counted = (past d, too_many_of d);
   first = λ h. first_past d (has_too_many d) refl (too_many_of d h);
+  large = λ h. first_large d (has_too_many d) refl h;
   within = λ none large. within_limits d (has_too_many d) refl (not_past d (has_too_many d) refl none) large;
 }

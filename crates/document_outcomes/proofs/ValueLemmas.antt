@@ -1,5 +1,5 @@
 -- In a valid document each outcome that is a value has the sort of its slot.
-use Rattle.std.proofs.Common.{◌≡◌, inl, inr, ℕ, zero, suc, true, List, [], ◌∷◌, ◌++◌, map, length, Some, None, Ok, refl, sym, ◌∙◌, ap, subst, arith, codes}
+use Rattle.std.proofs.Common.{◌≡◌, inl, inr, ℕ, zero, suc, Bool, true, cond, List, [], ◌∷◌, ◌++◌, map, length, take, drop, slice_get, Some, None, Ok, refl, sym, ◌∙◌, ap, subst, arith, codes}
 use Rattle.std.specs.Prelude.{Option, Result, Err, slice_get}
 use Rattle.std.specs.List.{filter_map}
 use Rattle.std.specs.Option.{option_map, option_and_then, option_map_or}
@@ -35,10 +35,10 @@ use Rattle.document_model.specs.TypedSlots.{type_of_component, plan_slots}
 use Rattle.document_model.specs.Dependencies.{existing, link_slots_read, deps_by, deps}
 use Rattle.document_model.proofs.DependencyLemmas.{deps_are_slots}
 use Rattle.document_model.proofs.Members.{map_some, from_find, from_append}
-use Rattle.document_outcomes.specs.Full.{Meanings, numbered, first_of, global_part, output_part, reading, outcome_by_rule, local, full}
+use Rattle.document_outcomes.specs.Full.{Meanings, numbered, first_of, is_set, part_of, global_part, output_part, reading, outcome_by_rule, local, full}
 use Rattle.document_outcomes.specs.NoFault.{HasNoFault}
 use Rattle.document_outcomes.specs.Sorts.{bound_sort, type_sort, sort_reading, sort_by_rule, local_sort, sort}
-use Rattle.document_outcomes.specs.Typed.{GivesSorts, no_features}
+use Rattle.document_outcomes.specs.Typed.{GivesSorts, PlacementsFaultTogether, no_features}
 use Rattle.document_outcomes.proofs.AgreementLemmas.{deps-found}
 use Rattle.document_outcomes.proofs.FullLemmas.{sort-fixpoint}
 use Rattle.document_outcomes.proofs.GivenLemmas.{bound-of_sort, own-of_sort, readings-agree}
@@ -311,3 +311,10 @@ no_features-sound = record {
   composed = λ mine target k v h. absurd (cc);
   together = λ mine target k other f h. refl;
 }
+
+pub placements_fault_together : PlacementsFaultTogether
+placements_fault_together m k other values f sound set fault =
+    let own = take 4 values in
+    let target = drop 5 values in
+    let chosen : (j : c.Component) → global_part m j values ≡ m.composed own target j = λ j. ap (λ (b : Bool). cond b (m.composed own target j) (part_of own j)) set in
+    chosen other ∙ sound.together own target k other f (sym (chosen k) ∙ fault)

@@ -23,6 +23,7 @@ use Rattle.document_outcomes.specs.Cycles.{is_cyclic, leads_back}
 use Rattle.document_outcomes.specs.Faults.{first_fault, fault_within_limits}
 use Rattle.document_outcomes.specs.Full.{Meanings, local, full}
 use Rattle.document_outcomes.specs.Sorts.{local_sort, sort}
+use Rattle.document_outcomes.specs.WorkedFaultedInputs.{FaultedInputsWork}
 use Rattle.document_outcomes.specs.WorkedMembers.{MembersWork, EntriesWork, HiddenAliasesWork, PlacementsWork}
 use Rattle.document_outcomes.specs.WorkedOrder.{KindsOfFaultsWork, ReferenceFaultsWork, SortFaultsWork}
 
@@ -32,6 +33,8 @@ kinds_of_faults_work = record {
   size_before_label = refl;
   label_before_link = refl;
   link_before_reference = refl;
+  links_and_compounds = refl;
+  size_of_override = refl;
   cycle_before_sort = refl;
   first_label = refl;
 }
@@ -41,6 +44,8 @@ unfolding full sort local local_sort full_at deps resolve first_fault fault_with
 reference_faults_work = record {
   override_before_slot = refl;
   first_override = refl;
+  output = refl;
+  own_slot = refl;
   target_before_override = refl;
   slot_of_override = refl;
   object_by_object = refl;
@@ -66,6 +71,8 @@ members_work = record {
   link = refl;
   second = refl;
   valid = refl;
+  linked = refl;
+  unplaced = refl;
   no_bounds = refl;
 }
 
@@ -75,6 +82,7 @@ entries_work = record {
   same = refl;
   other_object = refl;
   other_plan = refl;
+  other_values = refl;
   plan = refl;
 }
 
@@ -93,4 +101,13 @@ placements_work = record {
   y = refl;
   turn = refl;
   own_turn = refl;
+}
+
+pub faulted_inputs_work : FaultedInputsWork
+unfolding full sort local local_sort full_at deps resolve first_fault fault_within_limits is_cyclic leads_back reaches_in input_lists called path_text unit_named address_of address_text digits excess_from lexed_from lexeme_at numeral_at word_at longest longest_within sign_at printed is_utf8 chars encode decimal_text digits_below without_final_zeros whole_text is_decimal decimal_value size_of unicode_ident nearest
+faulted_inputs_work = record {
+  first = refl;
+  not_called = refl;
+  placed_by_target = refl;
+  link_not_called = refl;
 }

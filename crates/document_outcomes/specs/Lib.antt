@@ -14,3 +14,4 @@ pub mod WorkedFaults
 pub mod WorkedLinks
 pub mod WorkedMembers
 pub mod WorkedOrder
+pub mod WorkedFaultedInputs

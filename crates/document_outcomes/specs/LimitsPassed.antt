@@ -1,5 +1,5 @@
 -- Which limits a document may not pass, in numbers.
-use Rattle.std.specs.Prelude.{◌≡◌, ◌<◌, ◌↔◌, ◌⊎◌, false, [], length, Some, IsTrue}
+use Rattle.std.specs.Prelude.{◌≡◌, ◌<◌, ◌↔◌, ◌⊎◌, true, false, [], length, Some, IsTrue}
 use Rattle.document_model.specs.Counts.{slots_and_empty_cells, nodes_of_document, dependencies_of_document}
 use Rattle.document_model.specs.Document.{Document}
 use Rattle.document_outcomes.specs.Faults.{first_fault, fault_within_limits}
@@ -15,4 +15,5 @@ IsPastLimit d =
 pub record LimitsAreExact (d : Document) : Type 0 where
   pub counted : IsTrue (has_too_many d) ↔ IsPastLimit d
   pub first : IsPastLimit d → first_fault d ≡ Some (record { number = 29; subject = [] })
+  pub large : has_too_large d ≡ true → first_fault d ≡ Some (record { number = 29; subject = [] })
   pub within : (IsPastLimit d → ⊥) → has_too_large d ≡ false → first_fault d ≡ fault_within_limits d

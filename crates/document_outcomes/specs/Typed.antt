@@ -1,5 +1,5 @@
 -- Outcomes of the sorts of their slots.
-use Rattle.std.specs.Prelude.{◌≡◌, ℕ, List, [], Some, Ok, Err, slice_get}
+use Rattle.std.specs.Prelude.{◌≡◌, ℕ, true, List, [], Some, Ok, Err, slice_get}
 use Rattle.fc_base.specs.Graph.{IsIn}
 use Rattle.object_paths.specs.declared.slot_name.Component as c
 use Rattle.object_paths.specs.Slots.{Slot}
@@ -17,7 +17,7 @@ use Rattle.document_model.specs.Document.{Document, Object, object_named}
 use Rattle.document_model.specs.Slots.{slots, rule_of, bound}
 use Rattle.document_model.specs.TypedSlots.{type_of_component}
 use Rattle.document_outcomes.specs.Faults.{IsValid}
-use Rattle.document_outcomes.specs.Full.{Meanings, numbered, reading, full}
+use Rattle.document_outcomes.specs.Full.{Meanings, numbered, reading, full, is_set, global_part}
 use Rattle.document_outcomes.specs.Sorts.{sort}
 
 -- What features give has the sorts of their outputs, and what placements compose has those of the
@@ -32,6 +32,13 @@ pub record GivesSorts (m : Meanings) : Type 0 where
   pub together :
       (own target : List Value) (k other : c.Component) (f : ValueFault)
       → m.composed own target k ≡ Err f → m.composed own target other ≡ Err Range
+
+-- where a link takes its target's placement along, a fault of one part of its global placement is Range in all
+-- four
+abbrev pub PlacementsFaultTogether : Type 0
+PlacementsFaultTogether =
+    (m : Meanings) (k other : c.Component) (values : List Value) (f : ValueFault)
+    → GivesSorts m → is_set (slice_get values 4) ≡ true → global_part m k values ≡ Err f → global_part m other values ≡ Err Range
 
 -- no features, and placements that do not compose
 abbrev pub no_features : Meanings

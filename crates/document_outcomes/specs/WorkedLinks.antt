@@ -19,7 +19,7 @@ use Rattle.document_outcomes.specs.Faults.{Fault, first_fault}
 use Rattle.document_outcomes.specs.Full.{Meanings, full, part_of}
 use Rattle.document_outcomes.specs.WorkedParts.{whole, numeral, its, property, var_set}
 
--- A1 is 1, A2 is empty with an alias, A3 is 3 with the alias `width`, A5 is `sum($A1:A3)`, and B5 is
+-- A1 has that in it, A2 is empty with an alias, A3 is 3 with the alias `width`, A5 is `sum($A1:A3)`, and B5 is
 -- `width * 2`
 abbrev pub sheet_with : Content → Document
 sheet_with first =

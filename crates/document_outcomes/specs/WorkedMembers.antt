@@ -6,10 +6,9 @@ use Rattle.object_paths.specs.declared.slot_name.SlotName.{SlotName}
 use Rattle.object_paths.specs.declared.slot_name.SlotName.TheVariants.{Plain, Component}
 use Rattle.object_paths.specs.Order.{component_number}
 use Rattle.object_paths.specs.Slots.{Slot}
-use Rattle.property_types.specs.declared.prop_type.PropType.TheVariants.{Float, Placement, Distance}
+use Rattle.property_types.specs.declared.prop_type.PropType.TheVariants.{Float, Placement}
 use Rattle.property_types.specs.declared.value.Value.{Value}
 use Rattle.property_types.specs.declared.value.Value.TheVariants.{Number, Flag}
-use Rattle.property_types.specs.Plans.{Slots}
 use Rattle.property_types.specs.Types.{unit_of}
 use Rattle.property_types.specs.Values.{Outcome}
 use Rattle.document_model.specs.declared.content.Content.{Content}
@@ -17,20 +16,14 @@ use Rattle.document_model.specs.declared.content.Content.TheVariants.{Own, Bound
 use Rattle.document_model.specs.declared.kind.ObjectKind.TheVariants.{Sheet, Feature}
 use Rattle.document_model.specs.Document.{Document, Object}
 use Rattle.document_model.specs.Examples.{bare_object, document_of}
-use Rattle.document_model.specs.LinkedBox.{place_at, mm, plain, origin, result_of, box, box_plan, cell_of, cell_at, named}
-use Rattle.document_model.specs.TypedSlots.{bound_names}
+use Rattle.document_model.specs.LinkedBox.{place_at, mm, plain, origin, box, box_plan, cell_of, cell_at, named}
+use Rattle.document_model.specs.WorkedObjects.{compound}
+use Rattle.document_model.specs.WorkedRows.{frame}
 use Rattle.document_outcomes.specs.Called.{Entry, input_lists, called}
 use Rattle.document_outcomes.specs.Faults.{first_fault}
 use Rattle.document_outcomes.specs.Full.{Meanings, full, part_of}
 use Rattle.document_outcomes.specs.WorkedLinks.{link_to, target, found, echo, box_and_link}
 use Rattle.document_outcomes.specs.WorkedParts.{whole, its, property, var_set}
-
--- a compound with two members
-abbrev pub compound_plan : Slots
-compound_plan = record { type_name = codes "Part::Compound"; inputs = []; outputs = map (result_of Distance) bound_names; placed = true; members = true }
-
-abbrev pub compound : List ℕ → List ℕ → List (List ℕ) → Object
-compound name first others = record (bare_object name (Feature compound_plan)) { inputs = origin; members = first ∷ others }
 
 -- a box with a Height of 1 mm
 abbrev pub low_box : Object
@@ -55,6 +48,8 @@ pub record MembersWork : Type 0 where
   pub link : full twice (gathered (codes "L") []) (named (codes "C") (codes "MaxY")) ≡ Ok (mm 1000000000)
   pub second : map (λ (e : Entry). slice_get e.inputs 10) (called twice [] (gathered (codes "Box") (codes "Low" ∷ []))) ≡ None ∷ None ∷ None ∷ Some (mm 1000000000) ∷ []
   pub valid : first_fault (gathered (codes "Box") (codes "L" ∷ [])) ≡ None
+  pub linked : full twice (document_of (low_box ∷ compound (codes "C") (codes "Low") [] ∷ link_to (codes "L") (codes "C") [] ∷ [])) (named (codes "L") (codes "MaxY")) ≡ Ok (mm 1000000000)
+  pub unplaced : first_fault (document_of (frame ∷ compound (codes "C") (codes "F") [] ∷ [])) ≡ Some (found 23 (codes "C"))
   pub no_bounds : first_fault (document_of (target ∷ compound (codes "C") (codes "V") [] ∷ [])) ≡ Some (found 23 (codes "C"))
 
 -- another object, plan or value of an entry makes it another one
@@ -65,6 +60,9 @@ pub record EntriesWork : Type 0 where
       ≡ codes "Box" ∷ codes "L" ∷ []
   pub other_plan :
       map (λ (e : Entry). e.object) (called echo (map (λ (e : Entry). record e { type_name = codes "Part::Cube" }) (input_lists echo (box_and_link false))) (box_and_link false))
+      ≡ codes "Box" ∷ codes "L" ∷ []
+  pub other_values :
+      map (λ (e : Entry). e.object) (called echo (map (λ (e : Entry). record e { inputs = [] }) (input_lists echo (box_and_link false))) (box_and_link false))
       ≡ codes "Box" ∷ codes "L" ∷ []
   pub plan : map (λ (e : Entry). e.type_name) (input_lists echo (box_and_link false)) ≡ codes "Part::Box" ∷ codes "Part::Box" ∷ []
 

@@ -11,10 +11,10 @@ use Rattle.document_model.specs.declared.kind.ObjectKind.TheVariants.{Feature}
 use Rattle.document_model.specs.Document.{Document, Object}
 use Rattle.document_model.specs.Examples.{bare_object, document_of}
 use Rattle.document_model.specs.LinkedBox.{mm, box}
+use Rattle.document_model.specs.WorkedObjects.{compound}
 use Rattle.document_outcomes.specs.Faults.{first_fault}
 use Rattle.document_outcomes.specs.WorkedFaults.{nested, with_float}
 use Rattle.document_outcomes.specs.WorkedLinks.{link_to, target, found}
-use Rattle.document_outcomes.specs.WorkedMembers.{compound}
 use Rattle.document_outcomes.specs.WorkedParts.{whole, numeral, its, of_object, property, var_set}
 
 -- an object with another label
@@ -42,6 +42,8 @@ pub record KindsOfFaultsWork : Type 0 where
       ≡ Some (found 29 [])
   pub label_before_link : first_fault (document_of (ring ∷ with_label (codes "L") (var_set (codes "W") []) ∷ [])) ≡ Some (found 6 (codes "W"))
   pub link_before_reference : first_fault (document_of (unknown ∷ ring ∷ [])) ≡ Some (found 23 (codes "L"))
+  pub links_and_compounds : first_fault (document_of (target ∷ compound (codes "C") (codes "V") [] ∷ ring ∷ [])) ≡ Some (found 23 (codes "C"))
+  pub size_of_override : first_fault (document_of (target ∷ to_v ((Plain (codes "a"), Bound (nested 34)) ∷ []) ∷ [])) ≡ Some (found 29 [])
   pub cycle_before_sort :
       first_fault (document_of (var_set (codes "V") (property Float (codes "a") (Bound (flag true)) ∷ property Float (codes "b") (Bound (its (codes "b"))) ∷ []) ∷ []))
       ≡ Some (found 14 (codes "V.b"))
@@ -58,6 +60,11 @@ pub record ReferenceFaultsWork : Type 0 where
   pub first_override :
       first_fault (document_of (target ∷ to_v ((Plain (codes "y"), Own (whole 1)) ∷ (Plain (codes "z"), Own (whole 1)) ∷ []) ∷ []))
       ≡ Some (found 12 (codes "L.y"))
+  pub output :
+      first_fault (document_of (box ∷ link_to (codes "L") (codes "Box") ((Plain (codes "Volume"), Own (whole 1)) ∷ []) ∷ [])) ≡ Some (found 12 (codes "L.Volume"))
+  pub own_slot :
+      first_fault (document_of (box ∷ link_to (codes "L") (codes "Box") ((Plain (codes "LinkTransform"), Own (Flag true)) ∷ []) ∷ []))
+      ≡ Some (found 12 (codes "L.LinkTransform"))
   pub target_before_override : first_fault (document_of (to_v ((Plain (codes "z"), Own (whole 1)) ∷ []) ∷ [])) ≡ Some (found 12 (codes "L"))
   pub slot_of_override :
       first_fault (document_of (target ∷ to_v ((Plain (codes "a"), Bound (its (codes "nothing"))) ∷ []) ∷ [])) ≡ Some (found 12 (codes "L.a"))

@@ -13,7 +13,8 @@ ghost use Rattle.document_outcomes.specs.Full.{Meanings, full, local};
 ghost use Rattle.document_outcomes.specs.LimitsPassed.{LimitsAreExact};
 ghost use Rattle.document_outcomes.specs.NoFault.{HasNoFault};
 ghost use Rattle.document_outcomes.specs.Sorts.{local_sort, sort};
-ghost use Rattle.document_outcomes.specs.Typed.{NoSlotHasWrongOperands, OutcomesHaveSorts, SortsCanBeGiven};
+ghost use Rattle.document_outcomes.specs.Typed.{NoSlotHasWrongOperands, OutcomesHaveSorts, PlacementsFaultTogether, SortsCanBeGiven};
+ghost use Rattle.document_outcomes.specs.WorkedFaultedInputs.{FaultedInputsWork};
 ghost use Rattle.document_outcomes.specs.WorkedFaults.{FirstFaultsWork};
 ghost use Rattle.document_outcomes.specs.WorkedLinks.{FeaturesWork, LinkFaultsWork, LinksWork, SheetWorks};
 ghost use Rattle.document_outcomes.specs.WorkedMembers.{EntriesWork, HiddenAliasesWork, MembersWork, PlacementsWork};
@@ -101,6 +102,7 @@ pub fn outcomes_have_sorts()
     ensures of_sort { OutcomesHaveSorts }
     ensures no_wrong_operands { NoSlotHasWrongOperands }
     ensures can_be_met { SortsCanBeGiven }
+    ensures together { PlacementsFaultTogether }
 {}
 
 /// Two VarSets of Floats that are bound in a chain have their outcomes, and so have VarSets in which
@@ -145,10 +147,12 @@ pub fn faults_come_in_order()
 {}
 
 /// Compounds read the bounds of their members in order, entries differ by object, plan and values, a
-/// property hides an alias of its name, and a link stands after its target.
+/// property hides an alias of its name, a link stands after its target, and faults among the inputs of a
+/// feature are its own.
 pub fn members_and_names_work()
     ensures members { MembersWork }
     ensures entries { EntriesWork }
     ensures aliases { HiddenAliasesWork }
     ensures placements { PlacementsWork }
+    ensures faulted { FaultedInputsWork }
 {}

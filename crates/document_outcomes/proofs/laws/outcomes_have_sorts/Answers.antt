@@ -1,5 +1,5 @@
 use Rattle.document_outcomes.proofs.FaultLemmas.{valid-no_fault}
-use Rattle.document_outcomes.proofs.ValueLemmas.{full-typed, full-right, no_features-sound}
+use Rattle.document_outcomes.proofs.ValueLemmas.{full-typed, full-right, no_features-sound, placements_fault_together}
 use Rattle.document_outcomes.proofs.laws.outcomes_have_sorts.Goals as goal
 
 pub returns-clause-of_sort : goal.returns-clause-of_sort
@@ -11,3 +11,6 @@ returns-clause-no_wrong_operands c = λ m d sound valid s o e here found h wrong
 
 pub returns-clause-can_be_met : goal.returns-clause-can_be_met
 returns-clause-can_be_met c = no_features-sound
+
+pub returns-clause-together : goal.returns-clause-together
+returns-clause-together c = placements_fault_together
