@@ -4,6 +4,7 @@ use Rattle.std.specs.Option.{option_map, option_or}
 use Rattle.object_paths.specs.declared.path.Path.{Path}
 use Rattle.object_paths.specs.Slots.{Slot}
 use Rattle.property_types.specs.declared.value.Value.{Value}
+use Rattle.property_types.specs.Plans.{Slots}
 use Rattle.property_types.specs.Values.{Outcome}
 use Rattle.expr_tree.specs.Tree.{Tree}
 use Rattle.expr_grammar.specs.declared.fault.ExprFault.{ExprFault}
@@ -13,6 +14,7 @@ use Rattle.expr_eval.specs.Firsts.{on_one}
 use Rattle.expr_eval.specs.SortRows.{SortOutcome}
 use Rattle.document_model.specs.Document.{Document, Object}
 use Rattle.document_model.specs.Slots.{slots}
+use Rattle.document_outcomes.specs.Full.{Meanings}
 use Rattle.document_outcomes.specs.Sorts.{sort}
 use Rattle.document_outcomes.specs.Faults.{Fault, IsValid, first_fault, fault_within_limits, limit_faults, label_faults, link_faults, reference_fault, reference_faults, cycle_faults, sort_fault, sort_faults, range_faults, first_some, object_fault, slot_fault, number_of_cause}
 use Rattle.document_outcomes.specs.RefusalNumbers.{no_object, no_property, label_taken, out_of_range, unknown_reference, cycle, link_kind, too_many}
@@ -122,10 +124,10 @@ pub slot_commanded-named : (d : Document) (p : Path) (r : Refusal) → slot_comm
 slot_commanded-named d p = slot_behind-named d p (object_commanded d p.owner)
 
 -- an edit is refused with a number that has a name
-pub edited-named : (d : Document) (e : Edit) (r : Refusal) → edited d e ≡ Err r → IsNamed r
+pub edited-named : (plans : List Slots) (m : Meanings) (clean : Bool) (d : Document) (e : Edit) (r : Refusal) → edited plans m clean d e ≡ Err r → IsNamed r
 unfolding edited
-edited-named d (SetValue path text) = on_one-named _ (slot_commanded d path) (λ s. set_to-named d s _) (slot_commanded-named d path)
-edited-named d (Bind path text) = on_one-named _ (slot_commanded d path) (λ s. bound_to-named d s _) (slot_commanded-named d path)
+edited-named plans m clean d (SetValue path text) = on_one-named _ (slot_commanded d path) (λ s. set_to-named d s _) (slot_commanded-named d path)
+edited-named plans m clean d (Bind path text) = on_one-named _ (slot_commanded d path) (λ s. bound_to-named d s _) (slot_commanded-named d path)
 
 -- ---- what is accepted
 
@@ -155,10 +157,14 @@ bound_to-plain d s (Err f) a h = absurd (cc)
 set_to-plain : (d : Document) (s : Slot) (found : Result Tree ExprFault) (a : Accepted) → set_to d s found ≡ Ok a → IsPlain a
 set_to-plain d s found = on_one-plain _ (value_read d s found) (λ v. accepted-plain _)
 
-pub edited-plain : (d : Document) (e : Edit) (a : Accepted) → edited d e ≡ Ok a → IsPlain a
+pub edited-plain : (plans : List Slots) (m : Meanings) (clean : Bool) (d : Document) (e : Edit) (a : Accepted) → edited plans m clean d e ≡ Ok a → IsPlain a
 unfolding edited
-edited-plain d (SetValue path text) = on_one-plain _ (slot_commanded d path) (λ s. set_to-plain d s _)
-edited-plain d (Bind path text) = on_one-plain _ (slot_commanded d path) (λ s. bound_to-plain d s _)
+edited-plain plans m clean d (SetValue path text) = on_one-plain _ (slot_commanded d path) (λ s. set_to-plain d s _)
+edited-plain plans m clean d (Bind path text) = on_one-plain _ (slot_commanded d path) (λ s. bound_to-plain d s _)
+
+-- an edit that is accepted leads to a valid document
+pub edited-valid : (plans : List Slots) (m : Meanings) (clean : Bool) (d : Document) (e : Edit) (a : Accepted) → edited plans m clean d e ≡ Ok a → IsValid a.document
+edited-valid plans m clean d e a h = (edited-plain plans m clean d e a h).valid
 
 -- ---- how it is told
 

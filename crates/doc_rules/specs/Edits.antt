@@ -1,10 +1,12 @@
 -- What an edit makes of a document.
-use Rattle.std.specs.Prelude.{◌≡◌, ℕ, List, [], ◌∷◌, Option, Some, None, Result, Ok, Err, IsTrue}
+use Rattle.std.specs.Prelude.{◌≡◌, ℕ, Bool, List, [], ◌∷◌, Option, Some, None, Result, Ok, Err, IsTrue}
+use Rattle.fc_base.specs.declared.ids.SlotId.{SlotId}
 use Rattle.fc_base.specs.Graph.{IsIn}
 use Rattle.object_paths.specs.Slots.{Slot}
 use Rattle.property_types.specs.declared.prop_type.Sort.{Sort}
 use Rattle.property_types.specs.declared.value.Value.{Value}
 use Rattle.property_types.specs.declared.value.ValueFault.TheVariants.{Range}
+use Rattle.property_types.specs.Plans.{Slots}
 use Rattle.property_types.specs.Values.{Outcome}
 use Rattle.expr_grammar.specs.declared.fault.ExprFault.{ExprFault}
 use Rattle.expr_grammar.specs.Parse.{expression_in, closed_expression_in}
@@ -20,7 +22,7 @@ use Rattle.document_model.specs.Document.{Document}
 use Rattle.document_model.specs.Edited.{with_content}
 use Rattle.document_model.specs.Slots.{slots, type_of}
 use Rattle.document_outcomes.specs.Faults.{Fault, first_fault, number_of_cause}
-use Rattle.document_outcomes.specs.Full.{fitted}
+use Rattle.document_outcomes.specs.Full.{Meanings, fitted, full}
 use Rattle.document_outcomes.specs.RefusalNumbers.{out_of_range, expr_syntax}
 use Rattle.document_outcomes.specs.Sorts.{bound_sort}
 use Rattle.doc_tables.specs.Numbered.{Numbered, slot_at}
@@ -106,11 +108,21 @@ value_read d s (Err f) = Err (refusal_of_text f)
 abbrev pub set_to : Document → Slot → Result Tree ExprFault → Result Accepted Refusal
 set_to d s found = on_one (λ v. accepted (with_content d s (Own v))) (value_read d s found)
 
--- the document behind an edit, or the first reason why it is refused: that its path names nothing
--- comes first, and a fault of the edited document last
-unfoldable pub edited : Document → Edit → Result Accepted Refusal
-edited d (SetValue path text) = on_one (λ s. set_to d s (closed_expression_in text)) (slot_commanded d path)
-edited d (Bind path text) = on_one (λ s. bound_to d s (expression_in text)) (slot_commanded d path)
+-- The document behind an edit, or the first reason why it is refused: that its path names nothing
+-- comes first, and a fault of the edited document last.
+-- Beside the document an edit may look at three things: the plans of the features at hand, which tell
+-- the kind of a new object; and for an edit that takes the outcome of a slot for its value, what
+-- features and placements give, and whether the document is clean, that is, recomputed since its last
+-- edit. Such an edit is refused with NotRecomputed where it is not. The edits of today look at none.
+unfoldable pub edited : List Slots → Meanings → Bool → Document → Edit → Result Accepted Refusal
+edited plans m clean d (SetValue path text) = on_one (λ s. set_to d s (closed_expression_in text)) (slot_commanded d path)
+edited plans m clean d (Bind path text) = on_one (λ s. bound_to d s (expression_in text)) (slot_commanded d path)
+
+-- ---- what a call is handed
+
+-- of each slot in use the full outcome is kept by its number
+abbrev pub HasFullOutcomes : Meanings → Numbered → (SlotId → Option Outcome) → Type 0
+HasFullOutcomes m t kept = (id : SlotId) (s : Slot) → slot_at t id.0 ≡ Some s → kept id ≡ Some (full m t.document s)
 
 -- ---- how calls tell it
 

@@ -1,4 +1,5 @@
-ghost use Rattle.std.specs.Prelude.{◌≡◌, ◌≤◌, ◌<◌, ◌^◌, ◌≢◌, Err, IfOk, IfSome, IsSome, OnOk, Some, option_map};
+ghost use Rattle.std.specs.Prelude.{◌≡◌, ◌≤◌, ◌<◌, ◌^◌, ◌≢◌, [], Err, IfOk, IfSome, IsSome, OnOk, Some, is_some, option_map};
+ghost use Rattle.std.specs.Option.{ForSome};
 ghost use Rattle.property_types.specs.declared.prop_type.PropType.TheVariants.{Placement};
 ghost use Rattle.object_paths.specs.Slots.{Slot};
 ghost use Rattle.expr_eval.specs.Outcomes.{outcome_of};
@@ -9,10 +10,11 @@ ghost use Rattle.document_model.specs.Document.{Document};
 ghost use Rattle.document_model.specs.Edited.{with_content};
 ghost use Rattle.document_outcomes.specs.Faults.{IsValid};
 ghost use Rattle.document_outcomes.specs.Full.{fitted};
+ghost use Rattle.document_outcomes.specs.Typed.{no_features};
 ghost use Rattle.doc_tables.specs.Entries.{HasFewReferences};
 ghost use Rattle.doc_tables.specs.Numbered.{slot_at};
 ghost use Rattle.doc_tables.specs.Primitives.{with_content_at};
-ghost use Rattle.doc_rules.specs.Edits.{Answers, Becomes, IsNamed, MeetsEdit, accepted, bound_to, edited, fault_told, no_outcomes, no_sorts, refusal_of_fault, set_to, value_fitted, value_given, value_read};
+ghost use Rattle.doc_rules.specs.Edits.{Answers, Becomes, HasFullOutcomes, IsNamed, MeetsEdit, accepted, bound_to, edited, fault_told, no_outcomes, no_sorts, refusal_of_fault, set_to, value_fitted, value_given, value_read};
 ghost use Rattle.doc_rules.specs.declared.edit_fault.EditFault.TheVariants.{Refused};
 ghost use Rattle.doc_rules.specs.declared.refusal.Refusal.{Refusal};
 
@@ -31,7 +33,7 @@ use document_model::Content;
 use expr_eval::{SortFault, SortOutcome, evaluate, sort_of};
 use expr_grammar::{Expr, parse, parse_closed};
 use fc_base::{SlotId, Steps};
-use property_types::{FitFault, Outcome, PropType, Value, ValueFault};
+use property_types::{FitFault, Outcome, Outcomes, PropType, Value, ValueFault};
 use std::alloc::{AllocError, Global};
 
 /// An edit whose document has a fault is refused.
@@ -181,8 +183,15 @@ fn with_value(alloc: Global, tables: &Tables, slot: SlotId, text: &str) -> Resul
 
 /// A copy of the tables after an edit.
 #[tactic(auto, unfolding(crate::specs::Edits::edited))]
-fn edited(alloc: Global, tables: &Tables, edit: &Edit) -> Result<Tables, EditFault>
-    ensures { Becomes tables.now (edited tables.now.document edit.now) result }
+fn edited<O: Outcomes>(
+    alloc: Global,
+    tables: &Tables,
+    edit: &Edit,
+    clean: Option<&O>,
+) -> Result<Tables, EditFault>
+    requires valid { IsValid tables.now.document }
+    requires known { ForSome clean (λ kept. HasFullOutcomes no_features tables.now (O.outcomes kept.now)) }
+    ensures { Becomes tables.now (edited [] no_features (is_some clean.entry) tables.now.document edit.now) result }
 {
     match edit {
         Edit::SetValue { path, expr } => match slot_commanded(tables, path) {
@@ -206,12 +215,22 @@ fn edited(alloc: Global, tables: &Tables, edit: &Edit) -> Result<Tables, EditFau
 ///
 /// The edit is made in a copy, and the whole copy is checked, so an edit costs as much as the
 /// document is large; see `check`.
-pub fn apply_edit(alloc: Global, tables: &mut Tables, edit: &Edit) -> Result<u64, EditFault>
-    ensures exact { MeetsEdit tables.old tables.new (edited tables.old.document edit.now) result }
+///
+/// `clean` has the outcomes of a document that was recomputed since its last edit; of any other there
+/// are none. The two edits of today do not look at it.
+pub fn apply_edit<O: Outcomes>(
+    alloc: Global,
+    tables: &mut Tables,
+    edit: &Edit,
+    clean: Option<&O>,
+) -> Result<u64, EditFault>
+    requires valid { IsValid tables.old.document }
+    requires known { ForSome clean (λ kept. HasFullOutcomes no_features tables.old (O.outcomes kept.now)) }
+    ensures exact { MeetsEdit tables.old tables.new (edited [] no_features (is_some clean.entry) tables.old.document edit.now) result }
     ensures valid { OnOk result (IsValid tables.new.document) }
     ensures named { (r : Refusal) → result ≡ Err (Refused r) → IsNamed r }
 {
-    let edited = edited(alloc, tables, edit)?;
+    let edited = edited(alloc, tables, edit, clean)?;
     *tables = edited;
     Ok(0)
 }

@@ -1,10 +1,12 @@
 //! Laws of the definitions, each as the contract of a function with nothing to do.
-ghost use Rattle.std.specs.Prelude.{◌≡◌, IsTrue, Err, Some};
+ghost use Rattle.std.specs.Prelude.{◌≡◌, Bool, IsTrue, List, Err, Ok, Some};
+ghost use Rattle.property_types.specs.Plans.{Slots};
 ghost use Rattle.document_model.specs.Document.{Document};
-ghost use Rattle.document_outcomes.specs.Faults.{Fault, first_fault};
+ghost use Rattle.document_outcomes.specs.Faults.{Fault, IsValid, first_fault};
+ghost use Rattle.document_outcomes.specs.Full.{Meanings};
 ghost use Rattle.doc_rules.specs.declared.edit.Edit.{Edit};
 ghost use Rattle.doc_rules.specs.declared.refusal.Refusal.{Refusal};
-ghost use Rattle.doc_rules.specs.Edits.{IsNamed, edited};
+ghost use Rattle.doc_rules.specs.Edits.{Accepted, IsNamed, edited};
 ghost use Rattle.doc_rules.specs.Refusals.{is_refusal_number};
 
 /// The first fault of a document has one of the numbers of refusals.
@@ -14,5 +16,10 @@ pub fn faults_are_named()
 
 /// An edit is refused with one of the numbers of refusals.
 pub fn refused_edits_are_named()
-    ensures { (d : Document) (e : Edit) (r : Refusal) → edited d e ≡ Err r → IsNamed r }
+    ensures { (plans : List Slots) (m : Meanings) (clean : Bool) (d : Document) (e : Edit) (r : Refusal) → edited plans m clean d e ≡ Err r → IsNamed r }
+{}
+
+/// An edit that is accepted leads to a valid document.
+pub fn accepted_edits_are_valid()
+    ensures { (plans : List Slots) (m : Meanings) (clean : Bool) (d : Document) (e : Edit) (a : Accepted) → edited plans m clean d e ≡ Ok a → IsValid a.document }
 {}

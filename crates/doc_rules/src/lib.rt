@@ -3,8 +3,9 @@
 //! `check` answers the first fault of a document; its body has the order of the kinds. `apply_edit`
 //! makes an edit, or refuses it and changes nothing: it edits a copy, and checks the whole of that.
 //! `slot_commanded` answers the slot that the path of a command names. A `Refusal` has one of the
-//! numbers in `numbers`, and prints itself as the reply of a command does. Lines of scripts, and the
-//! outcomes of slots, are not known here.
+//! numbers in `numbers`, and prints itself as the reply of a command does. Lines of scripts are not
+//! known here, nor how outcomes are worked out: an edit is handed those of a document that was
+//! recomputed since its last edit.
 //!
 //! `docs/commands.md` has the refusals, `docs/evaluation.md` the first fault. Rows are tried in
 //! `worked_documents/src/faults.rt`, and by whole scripts in `tests/conformance`.
