@@ -7,3 +7,4 @@ pub mod SameRows
 pub mod SpellingLemmas
 pub mod Totals
 pub mod UnitAmounts
+pub mod VisitLemmas

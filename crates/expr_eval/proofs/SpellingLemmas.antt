@@ -1,13 +1,16 @@
--- Trees with other references, case by case: as many references, the same sort and the same outcome.
+-- Trees with other references, case by case: as many references, the same sort and the same outcome,
+-- and as many nodes visited.
 use Rattle.std.proofs.Common.{◌≡◌, ℕ, ◌+◌, refl}
 use Rattle.fc_base.specs.Places.{Block}
 use Rattle.object_paths.specs.declared.path.Path.{Path}
 use Rattle.property_types.specs.declared.value.ValueFault.{ValueFault}
+use Rattle.property_types.specs.declared.value.ValueFault.TheVariants.{OutOfType}
 use Rattle.expr_tree.specs.Tree.{Tree, literal, unit_one, flag, text, path, negate, binary, power, compare, conditional, function, modulo, aggregate, Arguments, no_more, tree, cells}
 use Rattle.expr_tree.specs.References.{reference_count, argument_reference_count}
 use Rattle.expr_tree.specs.Numbered.{with_numbered, with_numbered_arguments}
 use Rattle.expr_eval.specs.Sorts.{SortReading, sort_of, item_sorts}
 use Rattle.expr_eval.specs.Outcomes.{Reading, outcome_by, items_by}
+use Rattle.expr_eval.specs.Visited.{visited, visited_arguments}
 
 module _ (on_path : ℕ → Path → Path) (on_area : ℕ → Block → Block) where
   mutual
@@ -77,3 +80,26 @@ module _ (on_path : ℕ → Path → Path) (on_area : ℕ → Block → Block) w
       numbers-numbered n k no_more = refl
       numbers-numbered n k (tree t more) = rw (count-numbered n t, outcome-numbered n k t, numbers-numbered (n + reference_count t) (k + reference_count t) more)
       numbers-numbered n k (cells area more) = rw (numbers-numbered (n + 1) (k + 1) more)
+
+  module _ (r : Reading) where
+    mutual
+      pub visited-numbered : (n k : ℕ) (t : Tree) → visited r k (with_numbered on_path on_area n t) ≡ visited r k t
+      visited-numbered n k (literal x u) = refl
+      visited-numbered n k (unit_one u) = refl
+      visited-numbered n k (flag b) = refl
+      visited-numbered n k (text t) = refl
+      visited-numbered n k (path p) = refl
+      visited-numbered n k (negate a) = rw (visited-numbered n k a)
+      visited-numbered n k (binary op a b) = rw (count-numbered n a, visited-numbered n k a, visited-numbered (n + reference_count a) (k + reference_count a) b)
+      visited-numbered n k (power a m) = rw (visited-numbered n k a)
+      visited-numbered n k (compare op a b) = rw (count-numbered n a, visited-numbered n k a, visited-numbered (n + reference_count a) (k + reference_count a) b)
+      visited-numbered n k (conditional c a b) =
+          rw (count-numbered n c, count-numbered (n + reference_count c) a, outcome-numbered OutOfType r n k c, visited-numbered n k c, visited-numbered (n + reference_count c) (k + reference_count c) a, visited-numbered (n + reference_count c + reference_count a) (k + reference_count c + reference_count a) b)
+      visited-numbered n k (function op a) = rw (visited-numbered n k a)
+      visited-numbered n k (modulo a b) = rw (count-numbered n a, visited-numbered n k a, visited-numbered (n + reference_count a) (k + reference_count a) b)
+      visited-numbered n k (aggregate op all) = rw (visited-numbered_arguments n k all)
+
+      pub visited-numbered_arguments : (n k : ℕ) (all : Arguments) → visited_arguments r k (with_numbered_arguments on_path on_area n all) ≡ visited_arguments r k all
+      visited-numbered_arguments n k no_more = refl
+      visited-numbered_arguments n k (tree t more) = rw (count-numbered n t, visited-numbered n k t, visited-numbered_arguments (n + reference_count t) (k + reference_count t) more)
+      visited-numbered_arguments n k (cells area more) = rw (visited-numbered_arguments (n + 1) (k + 1) more)

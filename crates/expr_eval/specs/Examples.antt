@@ -1,5 +1,5 @@
 -- Expressions worked out.
-use Rattle.std.specs.Prelude.{◌≡◌, ℕ, ◌*◌, ℤ, pos, negsuc, true, List, [], ◌∷◌, None, Some, Ok, Err, codes}
+use Rattle.std.specs.Prelude.{◌≡◌, ℕ, ◌*◌, ℤ, pos, negsuc, true, false, List, [], ◌∷◌, None, Some, Ok, Err, codes}
 use Rattle.unit_signatures.specs.Units.{pure}
 use Rattle.property_types.specs.declared.prop_type.Sort.TheVariants as sort
 use Rattle.property_types.specs.declared.value.ValueFault.TheVariants.{Range, DivideByZero, EmptyAggregate}
@@ -8,12 +8,13 @@ use Rattle.property_types.specs.Types.{unit_of}
 use Rattle.property_types.specs.Values.{Outcome}
 use Rattle.fc_base.specs.Places.{Block}
 use Rattle.expr_tree.specs.declared.operators.BinaryOp.TheVariants.{Plus, Over}
-use Rattle.expr_tree.specs.declared.operators.CompareOp.TheVariants.{Equal}
+use Rattle.expr_tree.specs.declared.operators.CompareOp.TheVariants.{Equal, Less}
 use Rattle.expr_tree.specs.declared.functions.AggregateOp.TheVariants.{Sum, Average, Count}
 use Rattle.expr_tree.specs.Tree.{Tree, literal, flag, negate, binary, power, compare, conditional, aggregate, no_more, tree, cells}
 use Rattle.expr_eval.specs.declared.sort_cause.SortCause.TheVariants.{UnitMismatch, KindMismatch}
 use Rattle.expr_eval.specs.Sorts.{SortReading, sort_of}
 use Rattle.expr_eval.specs.Outcomes.{Reading, outcome_of}
+use Rattle.expr_eval.specs.Visited.{visited}
 
 -- a whole number, and a whole number of a unit
 abbrev pub whole : ℕ → Tree
@@ -61,3 +62,9 @@ pub record ExpressionsWork (area : Block) : Type 0 where
   pub average_of_none : outcome_of no_cells 0 (aggregate Average (cells area no_more)) ≡ Err EmptyAggregate
   pub sum_of_none : outcome_of no_cells 0 (aggregate Sum (cells area no_more)) ≡ number (pos 0) pure
   pub sort_of_cells : sort_of two_sorts 0 (aggregate Sum (cells area (tree (of_unit 1 (codes "mm")) no_more))) ≡ Err UnitMismatch
+  pub chosen_arm_is_visited : visited no_cells 0 (conditional (flag true) (whole 2) by_zero) ≡ 3
+  pub other_arm_is_visited : visited no_cells 0 (conditional (flag false) (whole 2) by_zero) ≡ 5
+  pub no_arm_behind_fault : visited no_cells 0 (conditional (compare Less by_zero (whole 1)) (whole 2) by_zero) ≡ 6
+  pub no_arm_behind_number : visited no_cells 0 (conditional (whole 1) (whole 2) by_zero) ≡ 2
+  pub operand_behind_fault : visited no_cells 0 (binary Plus by_zero beyond) ≡ 7
+  pub cells_are_not_visited : visited two_cells 0 (aggregate Count (cells area (tree (whole 1) no_more))) ≡ 2

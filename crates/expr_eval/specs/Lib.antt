@@ -5,6 +5,7 @@ pub mod Sorts
 pub mod Numbers
 pub mod Aggregates
 pub mod Outcomes
+pub mod Visited
 pub mod Spelling
 pub mod Kinds
 pub mod Examples

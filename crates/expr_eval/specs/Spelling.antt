@@ -7,6 +7,7 @@ use Rattle.expr_tree.specs.References.{with_references}
 use Rattle.expr_tree.specs.Numbered.{with_numbered}
 use Rattle.expr_eval.specs.Sorts.{SortReading, sort_of}
 use Rattle.expr_eval.specs.Outcomes.{Reading, outcome_of}
+use Rattle.expr_eval.specs.Visited.{visited}
 
 -- the outcome hangs on what the references give, and not on what they are
 abbrev pub OutcomeIgnoresSpelling : Type 0
@@ -30,3 +31,14 @@ abbrev pub SortIgnoresRenaming : Type 0
 SortIgnoresRenaming =
     (on_path : ℕ → Path → Path) (on_area : ℕ → Block → Block) (n : ℕ) (r : SortReading) (k : ℕ) (t : Tree)
     → sort_of r k (with_numbered on_path on_area n t) ≡ sort_of r k t
+
+-- how many nodes are visited hangs on what the references give
+abbrev pub VisitsIgnoreSpelling : Type 0
+VisitsIgnoreSpelling =
+    (on_path : Path → Path) (on_area : Block → Block) (r : Reading) (k : ℕ) (t : Tree)
+    → visited r k (with_references on_path on_area t) ≡ visited r k t
+
+abbrev pub VisitsIgnoreRenaming : Type 0
+VisitsIgnoreRenaming =
+    (on_path : ℕ → Path → Path) (on_area : ℕ → Block → Block) (n : ℕ) (r : Reading) (k : ℕ) (t : Tree)
+    → visited r k (with_numbered on_path on_area n t) ≡ visited r k t

@@ -7,6 +7,7 @@ ghost use Rattle.expr_eval.specs.Aggregates.{aggregate_outcome};
 ghost use Rattle.expr_eval.specs.Firsts.{all_of, on_one};
 ghost use Rattle.expr_eval.specs.Numbers.{number_of};
 ghost use Rattle.expr_eval.specs.Outcomes.{items_by, outcome_of};
+ghost use Rattle.expr_eval.specs.Visited.{visited, visited_arguments};
 
 use crate::aggregates::aggregate_outcome;
 use crate::all_of::all_of;
@@ -23,9 +24,9 @@ use std::alloc::{AllocError, Global};
 
 /// The outcome of an expression with fewer than 2^32 references, for what stands behind them: the
 /// first fault from the left, or the value. Of a conditional only the arm that is chosen counts.
-/// Each node that is visited is one step: at least one, and at most as many as there are nodes. At a
-/// node with two operands the references of the left one are counted, so a deep tree costs its nodes
-/// times its depth.
+/// Each node that is visited is one step: the root always, and at most all nodes. Without memory the
+/// steps so far are counted. At a node with two operands the references of the left one are counted, so
+/// a deep tree costs its nodes times its depth.
 pub fn evaluate<E: OutcomeEnv, L>(
     alloc: Global,
     tree: &Expr,
@@ -34,6 +35,7 @@ pub fn evaluate<E: OutcomeEnv, L>(
 ) -> Result<Outcome, AllocError>
     requires { reference_count tree.now < 2 ^ 32 }
     ensures outcome { IfOk result (λ o. o ≡ outcome_of (E.reading env.now) 0 tree.now) }
+    ensures steps { OnOk result (steps.new ≡ min (steps.old + visited (E.reading env.now) 0 tree.now) (2 ^ 64 - 1)) }
     ensures at_least { min (steps.old + 1) (2 ^ 64 - 1) ≤ steps.new }
     ensures at_most { steps.new ≤ min (steps.old + node_count tree.now) (2 ^ 64 - 1) }
 {
@@ -51,6 +53,7 @@ fn evaluate_from<E: OutcomeEnv, L>(
 ) -> Result<Outcome, AllocError>
     requires { first + reference_count tree.now < 2 ^ 32 }
     ensures outcome { IfOk result (λ o. o ≡ outcome_of (E.reading env.now) first tree.now) }
+    ensures steps { OnOk result (steps.new ≡ min (steps.old + visited (E.reading env.now) first tree.now) (2 ^ 64 - 1)) }
     ensures at_least { min (steps.old + 1) (2 ^ 64 - 1) ≤ steps.new }
     ensures at_most { steps.new ≤ min (steps.old + node_count tree.now) (2 ^ 64 - 1) }
 {
@@ -112,6 +115,7 @@ fn number<E: OutcomeEnv, L>(
 ) -> Result<Numeric, AllocError>
     requires { first + reference_count tree.now < 2 ^ 32 }
     ensures number { IfOk result (λ n. n ≡ number_of OutOfType (outcome_of (E.reading env.now) first tree.now)) }
+    ensures steps { OnOk result (steps.new ≡ min (steps.old + visited (E.reading env.now) first tree.now) (2 ^ 64 - 1)) }
     ensures at_least { min (steps.old + 1) (2 ^ 64 - 1) ≤ steps.new }
     ensures at_most { steps.new ≤ min (steps.old + node_count tree.now) (2 ^ 64 - 1) }
 {
@@ -131,6 +135,7 @@ fn item_numbers<E: OutcomeEnv, L>(
 ) -> Result<Vec<Numeric>, AllocError>
     requires { first + argument_reference_count (arguments_of arguments.now) < 2 ^ 32 }
     ensures items { IfOk result (λ items. items.items ≡ items_by OutOfType (E.reading env.now) first (arguments_of arguments.now)) }
+    ensures steps { OnOk result (steps.new ≡ min (steps.old + visited_arguments (E.reading env.now) first (arguments_of arguments.now)) (2 ^ 64 - 1)) }
     ensures never_less { steps.old ≤ steps.new }
     ensures at_most { steps.new ≤ min (steps.old + argument_nodes (arguments_of arguments.now)) (2 ^ 64 - 1) }
 {

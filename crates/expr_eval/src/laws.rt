@@ -2,9 +2,11 @@
 ghost use Rattle.fc_base.specs.Places.{Block};
 ghost use Rattle.expr_eval.specs.Examples.{ExpressionsWork};
 ghost use Rattle.expr_eval.specs.Kinds.{NoWrongOperands, OutcomeHasSort};
-ghost use Rattle.expr_eval.specs.Spelling.{OutcomeIgnoresRenaming, OutcomeIgnoresSpelling, SortIgnoresRenaming, SortIgnoresSpelling};
+ghost use Rattle.expr_eval.specs.Spelling.{OutcomeIgnoresRenaming, OutcomeIgnoresSpelling, SortIgnoresRenaming, SortIgnoresSpelling, VisitsIgnoreRenaming, VisitsIgnoreSpelling};
+ghost use Rattle.expr_eval.specs.Visited.{VisitsAreWithin};
 
-/// Expressions have the sorts and outcomes that were worked out by hand.
+/// Expressions have the sorts and outcomes that were worked out by hand, and as many of their nodes are
+/// visited.
 pub fn expressions_work()
     ensures { (area : Block) → ExpressionsWork area }
 {}
@@ -40,4 +42,19 @@ pub fn sort_ignores_spelling()
 /// The same where each reference is changed by its number.
 pub fn sort_ignores_renaming()
     ensures { SortIgnoresRenaming }
+{}
+
+/// Of an expression the root is visited, and no more nodes than there are.
+pub fn visits_are_within()
+    ensures { VisitsAreWithin }
+{}
+
+/// How many nodes are visited hangs on what the references give, and not on how they are spelled.
+pub fn visits_ignore_spelling()
+    ensures { VisitsIgnoreSpelling }
+{}
+
+/// The same where each reference is changed by its number.
+pub fn visits_ignore_renaming()
+    ensures { VisitsIgnoreRenaming }
 {}
