@@ -17,7 +17,7 @@ use Rattle.document_model.specs.Dependencies.{slot_reached, slots_of_tree, deps_
 use Rattle.document_outcomes.specs.Full.{Meanings, at_slot, in_cells, reading, fitted, first_of, global_part, output_part, outcome_by_rule, local}
 use Rattle.document_outcomes.proofs.AgreementLemmas.{AgreeOn, map-agreed, deps-found, from_slice_get, agreed-path, agreed-cells}
 
-module _ (m : Meanings) (d : Document) where
+module _ (d : Document) where
   module _ (o : Object) (e : Tree) (v w : Slot → Outcome) (agree : AgreeOn (slots_of_tree d o e) v w) where
     agreed-reached : (r : Reference) (s : Option Slot) → IsIn r (references e) → slot_reached d o r ≡ s → at_slot v s ≡ at_slot w s
     agreed-reached r None here reached = refl
@@ -31,18 +31,20 @@ module _ (m : Meanings) (d : Document) where
     agreed-inside k None here = refl
     agreed-inside k (Some r) here = agreed-cells d o e v w agree r (from_slice_get (references e) k r here)
 
-    reading-agreed : reading d o e v ≡ reading d o e w
+    -- so an expression is given the same
+    pub reading-agreed : reading d o e v ≡ reading d o e w
     reading-agreed = λ i. record {
       at = λ k. agreed-at k (slice_get (references e) k) refl i;
       inside = λ k. agreed-inside k (slice_get (references e) k) refl i;
     }
 
+module _ (m : Meanings) (d : Document) where
   by_rule-agreed :
       (s : Slot) (o : Object) (rule : Option Rule) (v w : Slot → Outcome)
       → AgreeOn (deps_by d o rule) v w → deps d s ≡ deps_by d o rule → outcome_by_rule m d s o v rule ≡ outcome_by_rule m d s o w rule
   by_rule-agreed s o None v w agree same = refl
   by_rule-agreed s o (Some (own x)) v w agree same = refl
-  by_rule-agreed s o (Some (bound e)) v w agree same = λ i. fitted (type_of d s) (outcome_of (reading-agreed o e v w agree i) 0 e)
+  by_rule-agreed s o (Some (bound e)) v w agree same = λ i. fitted (type_of d s) (outcome_of (reading-agreed d o e v w agree i) 0 e)
   by_rule-agreed s o (Some (inherit t)) v w agree same =
       λ i. first_of (map-agreed v w (deps d s) (λ x j. agree x (subst (λ (q : List Slot). IsIn x q) same j)) i)
   by_rule-agreed s o (Some (global k)) v w agree same =

@@ -1,27 +1,32 @@
 -- How much there is to evaluate, slot by slot and in all.
-use Rattle.std.proofs.Common.{◌≡◌, inl, inr, ℕ, ◌+◌, ◌≤◌, List, [], ◌∷◌, length, Some, None, refl, sym, ◌∙◌, ap, subst, arith}
-use Rattle.std.specs.Prelude.{Option, true, false}
+use Rattle.std.proofs.Common.{◌≡◌, inl, inr, ℕ, ◌+◌, ◌-◌, ◌^◌, ◌≤◌, min, Bool, cond, List, [], ◌∷◌, length, Some, None, refl, sym, ◌∙◌, ap, subst, arith}
+use Rattle.std.specs.Prelude.{Option, true, false, not, is_some, filter}
 use Rattle.std.specs.List.{filter_map, cons_option, sum_by, IsDistinct}
 use Rattle.std.specs.Option.{option_and_then, option_map_or}
+use Rattle.std.proofs.lemmas.Bool.{and_parts}
 use Rattle.std.proofs.lemmas.List.Sums.{sum_by-cons}
 use Rattle.fc_base.specs.Graph.{IsIn, IsOrdered}
 use Rattle.fc_base.proofs.GraphLemmas.{AllDifferent}
 use Rattle.expr_tree.specs.Nodes.{node_count}
 use Rattle.expr_tree.specs.Tree.{Tree}
 use Rattle.object_paths.specs.Slots.{Slot, same_slot}
-use Rattle.document_model.specs.Counts.{expressions, nodes_of_document}
+use Rattle.property_types.specs.Values.{Outcome}
+use Rattle.document_model.specs.Counts.{nodes_of_document}
 use Rattle.document_model.specs.Dependencies.{deps}
 use Rattle.document_model.specs.Document.{Document}
 use Rattle.document_model.specs.Slots.{slots, rule_of}
 use Rattle.document_model.proofs.Members.{from_filter_map}
+use Rattle.document_outcomes.specs.Full.{Meanings, full}
 use Rattle.document_outcomes.proofs.SlotTests.{slot_equal}
 use Rattle.doc_tables.proofs.VarSetLemmas.{of_all}
-use Rattle.doc_tables.specs.Accessors.{tree_by, tree_at}
+use Rattle.doc_tables.specs.Accessors.{tree_by}
 use Rattle.doc_tables.specs.Numbered.{Numbered, IsNumbered, slot_at}
 use Rattle.doc_tables.specs.VarSets.{HoldsVarSets}
+use Rattle.recompute.specs.Evaluated.{Evaluated, expression_of, nodes_of, nodes_of_slots, visits, is_outcome, kept_of, is_stale, stale_slots, to_be_done}
 use Rattle.recompute.specs.Order.{OrdersNumbers}
-use Rattle.recompute.specs.Steps.{nodes_of, trees_of, nodes_at, trees_at}
-use Rattle.recompute.proofs.OrderLemmas.{slot-of_document}
+use Rattle.recompute.specs.Steps.{nodes_at, visits_at}
+use Rattle.recompute.proofs.KeptLemmas.{slot-of_document}
+use Rattle.recompute.proofs.VisitLemmas.{bound-visited, visits-within}
 
 -- the list without the member at that place
 without : {S : Type 0} (ys : List S) (x : S) → IsIn x ys → List S
@@ -84,9 +89,14 @@ sum_by-filter_map {A} {B} f h (x ∷ xs) =
 sum_by-same : {A : Type 0} (f g : A → ℕ) (xs : List A) → ((x : A) → f x ≡ g x) → sum_by f xs ≡ sum_by g xs
 sum_by-same f g xs same = λ i. sum_by (λ x. same x i) xs
 
-length-sum : {A : Type 0} (xs : List A) → sum_by (λ x. 1) xs ≡ length xs
-length-sum [] = refl
-length-sum (x ∷ xs) = let e = length-sum xs in let one = sum_by-cons (λ y. 1) x xs in omega arith
+sum_by-le : {A : Type 0} (f g : A → ℕ) (xs : List A) → ((x : A) → f x ≤ g x) → sum_by f xs ≤ sum_by g xs
+sum_by-le f g [] less = omega arith
+sum_by-le f g (x ∷ xs) less =
+    let here = less x in
+    let others = sum_by-le f g xs less in
+    let one = sum_by-cons f x xs in
+    let two = sum_by-cons g x xs in
+    omega arith
 
 -- slots that no test finds alike are different
 pub distinct-different : (xs : List Slot) → IsDistinct same_slot xs → AllDifferent xs
@@ -100,61 +110,111 @@ distinct-different (x ∷ xs) distinct = (
   distinct-different xs distinct.1,
 )
 
--- the expression of a slot
-abbrev tree_of : Document → Slot → Option Tree
-tree_of d s = option_and_then tree_by (rule_of d s)
+-- each slot that passes has something
+sum_by-filter-least : {S : Type 0} (p : S → Bool) (f : S → ℕ) (xs : List S) → ((x : S) → p x ≡ true → 1 ≤ f x) → length (filter p xs) ≤ sum_by f (filter p xs)
+sum_by-filter-least p f [] least = omega arith
+sum_by-filter-least {S} p f (x ∷ xs) least =
+    elim (p x) as (λ (b : Bool). p x ≡ b → length (cond b (x ∷ filter p xs) (filter p xs)) ≤ sum_by f (cond b (x ∷ filter p xs) (filter p xs))) [
+      | true ↦ λ e.
+          let here = least x e in
+          let others = sum_by-filter-least p f xs least in
+          let one = sum_by-cons f x (filter p xs) in
+          omega arith
+      | false ↦ λ e. sum_by-filter-least p f xs least
+    ] refl
+
+-- what passes stands in the list
+from_filter : {S : Type 0} (p : S → Bool) (xs : List S) (x : S) → IsIn x (filter p xs) → IsIn x xs
+from_filter p [] x i = i
+from_filter {S} p (y ∷ ys) x i =
+    elim (p y) as (λ (b : Bool). IsIn x (cond b (y ∷ filter p ys) (filter p ys)) → IsIn x (y ∷ ys)) [
+      | true ↦ λ j. elim j [ inl e ↦ inl e | inr k ↦ inr (from_filter p ys x k) ]
+      | false ↦ λ j. inr (from_filter p ys x j)
+    ] i
+
+filter-different : {S : Type 0} (p : S → Bool) (xs : List S) → AllDifferent xs → AllDifferent (filter p xs)
+filter-different p [] different = tt
+filter-different {S} p (x ∷ xs) different =
+    elim (p x) as (λ (b : Bool). AllDifferent (cond b (x ∷ filter p xs) (filter p xs))) [
+      | true ↦ (λ i. different.0 (from_filter p xs x i), filter-different p xs different.1)
+      | false ↦ filter-different p xs different.1
+    ]
 
 module _ (t : Numbered) (numbered : IsNumbered t) (order : List ℕ) (ordered : OrdersNumbers t order) where
   abbrev in_order : List Slot
   in_order = filter_map (slot_at t) order
 
-  -- a sum over numbers, where a number not in use has nothing, as one over slots
-  by_slots : (f : Option Tree → ℕ) → f None ≡ 0 → sum_by (λ n. f (tree_at t n)) order ≡ sum_by (λ s. f (tree_of t.document s)) in_order
-  by_slots f none =
-      sum_by-same (λ n. f (tree_at t n)) (λ n. option_map_or (λ s. f (tree_of t.document s)) (slot_at t n) 0) order
-      (λ n. elim (slot_at t n) as (λ (q : Option Slot). f (option_and_then tree_by (option_and_then (rule_of t.document) q)) ≡ option_map_or (λ s. f (tree_of t.document s)) q 0) [
-        | None ↦ none
+  -- the slots in order are different slots of the document
+  order-le : (f : Slot → ℕ) → sum_by f in_order ≤ sum_by f (slots t.document)
+  order-le f =
+      sum_by-different-le f in_order (slots t.document) (ordered-different (deps t.document) [] in_order ordered.ordered.ordered)
+      (λ s i. let m = from_filter_map (slot_at t) order s i in slot-of_document t numbered m.0 s m.2)
+
+  -- the nodes of the slots in order are no more than those of all slots
+  pub nodes-le : sum_by (nodes_at t) order ≤ nodes_of_slots t.document (to_be_done t.document)
+  nodes-le =
+      let same : sum_by (nodes_at t) order ≡ sum_by (λ s. nodes_of (expression_of t.document s)) in_order =
+      sum_by-same (nodes_at t) (λ n. option_map_or (λ s. nodes_of (expression_of t.document s)) (slot_at t n) 0) order
+      (λ n. elim (slot_at t n) as (λ (q : Option Slot). nodes_of (option_and_then tree_by (option_and_then (rule_of t.document) q)) ≡ option_map_or (λ s. nodes_of (expression_of t.document s)) q 0) [
+        | None ↦ refl
         | Some s ↦ refl
       ])
-      ∙ sum_by-filter_map (λ s. f (tree_of t.document s)) (slot_at t) order
-
-  order-le : (f : Option Tree → ℕ) → f None ≡ 0 → sum_by (λ n. f (tree_at t n)) order ≤ sum_by (λ s. f (tree_of t.document s)) (slots t.document)
-  order-le f none =
-      let same = by_slots f none in
-      let fewer =
-      sum_by-different-le (λ s. f (tree_of t.document s)) in_order (slots t.document) (ordered-different (deps t.document) [] in_order ordered.ordered.ordered)
-      (λ s i. let m = from_filter_map (slot_at t) order s i in slot-of_document t numbered m.0 s m.2) in
+      ∙ sum_by-filter_map (λ s. nodes_of (expression_of t.document s)) (slot_at t) order in
+      let fewer = order-le (λ s. nodes_of (expression_of t.document s)) in
       omega arith
 
-  le-order : (f : Option Tree → ℕ) → f None ≡ 0 → AllDifferent (slots t.document) → sum_by (λ s. f (tree_of t.document s)) (slots t.document) ≤ sum_by (λ n. f (tree_at t n)) order
-  le-order f none different =
-      let same = by_slots f none in
-      let fewer = sum_by-different-le (λ s. f (tree_of t.document s)) (slots t.document) in_order different ordered.ordered.all in
+  module _ (m : Meanings) (distinct : IsDistinct same_slot (slots t.document)) where
+    -- as many nodes are visited as the slots of the document say
+    visits-sum : sum_by (visits_at m t) order ≡ sum_by (visits m t.document) (slots t.document)
+    visits-sum =
+        let same = sum_by-filter_map (visits m t.document) (slot_at t) order in
+        let fewer = order-le (visits m t.document) in
+        let more = sum_by-different-le (visits m t.document) (slots t.document) in_order (distinct-different (slots t.document) distinct) ordered.ordered.all in
+        omega arith
+
+    -- where all slots were worked out in order, these were evaluated
+    pub evaluated-all :
+        (before : List (Option Outcome)) (old new : ℕ) → new ≡ min (old + sum_by (visits_at m t) order) (2 ^ 64 - 1) → Evaluated m t before old new
+    evaluated-all before old new steps = record {
+      slots = slots t.document;
+      once = distinct;
+      due = λ s i. i;
+      stale = λ s i. from_filter (is_stale m t before) (slots t.document) s i;
+      steps = steps ∙ ap (λ (n : ℕ). min (old + n) (2 ^ 64 - 1)) visits-sum;
+    }
+
+-- the two bounds that follow of what was evaluated
+module _ (m : Meanings) (t : Numbered) (before : List (Option Outcome)) (old new : ℕ) (evaluated : Evaluated m t before old new) where
+  stale-visited : (s : Slot) → is_stale m t before s ≡ true → 1 ≤ visits m t.document s
+  stale-visited s h =
+      bound-visited (full m t.document) t.document s
+      (and_parts (is_some (expression_of t.document s)) (not (is_outcome (kept_of t before s) (full m t.document s))) h).0
+
+  -- one step at least for each stale slot
+  pub evaluated-least : IsDistinct same_slot (slots t.document) → min (old + length (stale_slots m t before)) (2 ^ 64 - 1) ≤ new
+  evaluated-least distinct =
+      let each = sum_by-filter-least (is_stale m t before) (visits m t.document) (slots t.document) stale-visited in
+      let among =
+      sum_by-different-le (visits m t.document) (stale_slots m t before) evaluated.slots
+      (filter-different (is_stale m t before) (slots t.document) (distinct-different (slots t.document) distinct)) evaluated.stale in
+      let steps = evaluated.steps in
       omega arith
 
-  module _ (holds : HoldsVarSets t.document) where
-    -- the nodes of all expressions bound those of the slots in order
-    pub nodes-le : sum_by (nodes_at t) order ≤ nodes_of_document t.document
-    nodes-le =
-        let fewer = order-le nodes_of refl in
-        let all : sum_by (λ s. nodes_of (tree_of t.document s)) (slots t.document) ≡ nodes_of_document t.document =
-        sum_by-same (λ s. nodes_of (tree_of t.document s)) (λ s. option_map_or node_count (tree_of t.document s) 0) (slots t.document) (λ s. nodes-mapped (tree_of t.document s))
-        ∙ sum_by-filter_map node_count (tree_of t.document) (slots t.document) ∙ ap (sum_by node_count) (sym holds.expressions) in
-        omega arith
-      where
-        nodes-mapped : (o : Option Tree) → nodes_of o ≡ option_map_or node_count o 0
-        nodes-mapped None = refl
-        nodes-mapped (Some e) = refl
+  -- and at most all nodes of the slots that may be worked out
+  pub evaluated-most : new ≤ min (old + nodes_of_slots t.document (to_be_done t.document)) (2 ^ 64 - 1)
+  evaluated-most =
+      let fewer = sum_by-le (visits m t.document) (λ s. nodes_of (expression_of t.document s)) evaluated.slots (λ s. visits-within (full m t.document) t.document s) in
+      let among =
+      sum_by-different-le (λ s. nodes_of (expression_of t.document s)) evaluated.slots (to_be_done t.document) (distinct-different evaluated.slots evaluated.once) evaluated.due in
+      let steps = evaluated.steps in
+      omega arith
 
-    -- all expressions are among those of the slots in order
-    pub trees-le : AllDifferent (slots t.document) → length (expressions t.document) ≤ sum_by (trees_at t) order
-    trees-le different =
-        let fewer = le-order trees_of refl different in
-        let all : sum_by (λ s. trees_of (tree_of t.document s)) (slots t.document) ≡ length (expressions t.document) =
-        sum_by-same (λ s. trees_of (tree_of t.document s)) (λ s. option_map_or (λ e. 1) (tree_of t.document s) 0) (slots t.document) (λ s. trees-mapped (tree_of t.document s))
-        ∙ sum_by-filter_map (λ e. 1) (tree_of t.document) (slots t.document) ∙ length-sum (filter_map (tree_of t.document) (slots t.document)) ∙ ap length (sym holds.expressions) in
-        omega arith
-      where
-        trees-mapped : (o : Option Tree) → trees_of o ≡ option_map_or (λ e. 1) o 0
-        trees-mapped None = refl
-        trees-mapped (Some e) = refl
+-- the nodes of all slots are those of the document
+pub nodes-all : (d : Document) → HoldsVarSets d → nodes_of_slots d (slots d) ≡ nodes_of_document d
+nodes-all d holds =
+    sum_by-same (λ s. nodes_of (expression_of d s)) (λ s. option_map_or node_count (expression_of d s) 0) (slots d) (λ s. nodes-mapped (expression_of d s))
+    ∙ sum_by-filter_map node_count (expression_of d) (slots d) ∙ ap (sum_by node_count) (sym holds.expressions)
+  where
+    nodes-mapped : (o : Option Tree) → nodes_of o ≡ option_map_or node_count o 0
+    nodes-mapped None = refl
+    nodes-mapped (Some e) = refl

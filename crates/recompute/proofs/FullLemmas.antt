@@ -1,6 +1,6 @@
 -- What is kept once all slots are worked out.
-use Rattle.std.proofs.Common.{◌≡◌, inl, inr, ℕ, ◌+◌, Bool, cond, List, [], ◌∷◌, map, length, Some, None, refl, sym, ◌∙◌, ap}
-use Rattle.std.specs.Prelude.{Option, IsSome, Err, is_some, count_by, filter, not, unwrap_or}
+use Rattle.std.proofs.Common.{◌≡◌, inl, inr, ◌+◌, Bool, cond, List, [], ◌∷◌, map, length, Some, None, refl, sym, ◌∙◌, ap}
+use Rattle.std.specs.Prelude.{Option, Err, count_by, filter, not, unwrap_or}
 use Rattle.std.specs.List.{filter_map, cons_option, list_any}
 use Rattle.std.specs.Option.{option_and_then, option_map}
 use Rattle.std.specs.Result.{is_err}
@@ -18,40 +18,15 @@ use Rattle.document_model.specs.Ends.{end_from, end_along, plan_of_kind, plan_be
 use Rattle.document_model.specs.Slots.{slots}
 use Rattle.document_outcomes.specs.Called.{Entry, entry_of, input_lists, called, same_entry}
 use Rattle.document_outcomes.specs.Full.{Meanings, full}
-use Rattle.document_outcomes.proofs.OrderLemmas.{evaluated-full}
 use Rattle.doc_tables.specs.Accessors.{AreNumbersOf}
-use Rattle.doc_tables.specs.Numbered.{Numbered, IsNumbered, at_number, slot_at}
+use Rattle.doc_tables.specs.Numbered.{Numbered, IsNumbered, slot_at}
 use Rattle.doc_tables.specs.VarSets.{IsVarSet, HoldsVarSets}
 use Rattle.doc_tables.proofs.NumberLemmas.{number_of_slot}
 use Rattle.doc_tables.proofs.VarSetLemmas.{of_all}
-use Rattle.recompute.specs.Kept.{AreFull, faults_of, kept_at, kept_for}
-use Rattle.recompute.specs.Order.{OrdersNumbers, WorksOut, AreKeptFor}
-use Rattle.recompute.proofs.KeptLemmas.{some_value}
-use Rattle.recompute.proofs.OrderLemmas.{slot-of_document}
-use Rattle.recompute.proofs.ReadingLemmas.{kept_for-number}
+use Rattle.recompute.specs.Kept.{AreFull, AreLast, faults_of, kept_at, kept_for}
+use Rattle.recompute.proofs.KeptLemmas.{kept_for-number}
 
 module _ (t : Numbered) (numbered : IsNumbered t) (values : List (Option Outcome)) where
-  -- once the slots are worked out in order, the outcomes are full
-  pub are-full : (order : List ℕ) (before : List (Option Outcome)) → OrdersNumbers t order → WorksOut t order before values → AreKeptFor order values → (m : Meanings) → AreFull m t values
-  are-full order before ordered worked kept m n =
-      elim (slot_at t n) as (λ (q : Option Slot). slot_at t n ≡ q → at_number values n ≡ option_map (full m t.document) q) [
-        | None ↦ λ e.
-            elim (at_number values n) as (λ (o : Option Outcome). at_number values n ≡ o → o ≡ None) [
-              | None ↦ λ h. refl
-              | Some x ↦ λ h. absurd (
-                  let used : IsSome (slot_at t n) = ordered.used n ((kept n).0 (ap is_some h)) in
-                  let no = ap is_some e in
-                  cc)
-            ] refl
-        | Some s ↦ λ e.
-            let there = some_value (at_number values n) ((kept n).1 (ordered.all n (ap is_some e))) in
-            let here : IsIn s (slots t.document) = slot-of_document t numbered n s e in
-            let same : full m t.document s ≡ kept_for t values s =
-            evaluated-full t.document (filter_map (slot_at t) order) ordered.ordered.ordered ordered.ordered.all m (kept_for t before) (kept_for t values) (worked m) s here in
-            let one : kept_at values n ≡ there.0 = ap (λ (o : Option Outcome). unwrap_or o (Err Range)) there.1 in
-            there.1 ∙ ap Some (sym one ∙ kept_for-number t numbered values n s e ∙ sym same)
-      ] refl
-
   -- what is kept for a slot of the document is its full outcome
   pub kept-full : (m : Meanings) → AreFull m t values → (s : Slot) → IsIn s (slots t.document) → kept_for t values s ≡ full m t.document s
   kept-full m full_kept s here =
@@ -119,3 +94,7 @@ module _ (d : Document) (holds : HoldsVarSets d) where
   pub called-none : (m : Meanings) (last : List Entry) → 0 ≡ length (called m last d)
   unfolding called
   called-none m last = ap (λ (es : List Entry). length (filter (λ e. not (list_any (same_entry e) last)) es)) (sym (inputs-none m))
+
+  -- and no input list is kept
+  pub last-none : (m : Meanings) → AreLast m d []
+  last-none m = record { entries = sym (inputs-none m); outputs = λ g i. absurd i }

@@ -1,6 +1,8 @@
+pub mod EqualityLemmas
 pub mod RuleLemmas
-pub mod ReadingLemmas
+pub mod VisitLemmas
 pub mod KeptLemmas
+pub mod ReadingLemmas
 pub mod SumLemmas
 pub mod OrderLemmas
 pub mod FullLemmas

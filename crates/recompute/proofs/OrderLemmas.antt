@@ -22,7 +22,7 @@ use Rattle.doc_tables.proofs.NumberLemmas.{from_mapped, to_mapped, at_number-wit
 use Rattle.doc_tables.proofs.OrderLemmas.{slots-ordered, all_slots-listed}
 use Rattle.dependency_order.specs.Nodes.{inputs_of, AreNodes, OrdersAll, HasCycle}
 use Rattle.recompute.specs.Order.{TellsUse, MarksAll, OrdersNumbers}
-use Rattle.recompute.proofs.KeptLemmas.{some_value, same_or_not, IsIn-at}
+use Rattle.recompute.proofs.KeptLemmas.{some_value, same_or_not, IsIn-at, slot-of_document}
 
 -- two tests that pass together are one
 same_test : (a b : Bool) → (a ≡ true → b ≡ true) → (b ≡ true → a ≡ true) → a ≡ b
@@ -31,10 +31,6 @@ same_test false true there back = back refl
 same_test false false there back = refl
 
 module _ (t : Numbered) (numbered : IsNumbered t) where
-  -- a slot with a number is one of the document
-  pub slot-of_document : (n : ℕ) (s : Slot) → slot_at t n ≡ Some s → IsIn s (slots t.document)
-  slot-of_document n s at = (numbered.all_slots s).1 (ap is_some ((numbered.slot_numbers n s).0 at))
-
   -- the marks of all slots tell which numbers are in use
   pub marks-tell : (ids : List SlotId) (marks : List Bool) → AreNumbersOf t ids (slots t.document) → MarksAll ids marks → TellsUse t marks
   marks-tell ids marks listed marked = λ n.
@@ -45,7 +41,7 @@ module _ (t : Numbered) (numbered : IsNumbered t) where
       ap is_some (ap (slot_at t) m.2 ∙ f.1))
       (λ h.
       let v = some_value (slot_at t n) h in
-      let f = to_mapped (λ (id : SlotId). slot_at t id.0) ids (slots t.document) listed v.0 (slot-of_document n v.0 v.1) in
+      let f = to_mapped (λ (id : SlotId). slot_at t id.0) ids (slots t.document) listed v.0 (slot-of_document t numbered n v.0 v.1) in
       let id : SlotId = f.0 in
       subst (λ (k : ℕ). slice_index_or marks k false ≡ true) (slot_at-once t numbered id.0 n v.0 f.1 v.1) (marked.all id f.2))
 

@@ -1,7 +1,7 @@
 -- What the rule of a slot of a VarSet gives.
 use Rattle.std.proofs.Common.{◌≡◌, inl, inr, ℕ, List, [], ◌∷◌, Some, None, refl, sym, ◌∙◌, ap, subst}
 use Rattle.std.specs.Prelude.{◌≢◌, Option, Ok, Err}
-use Rattle.std.specs.Option.{option_map_or}
+use Rattle.std.specs.Option.{option_and_then, option_map_or}
 use Rattle.fc_base.specs.Graph.{IsIn}
 use Rattle.object_paths.specs.declared.slot_name.Component as c
 use Rattle.object_paths.specs.declared.slot_name.Component.TheVariants.{X, Y, Z, Turn}
@@ -17,11 +17,12 @@ use Rattle.expr_eval.specs.Outcomes.{outcome_of}
 use Rattle.expr_tree.specs.Tree.{Tree}
 use Rattle.document_model.specs.declared.content.Content.{Content}
 use Rattle.document_model.specs.Document.{Document, Object, Property, object_named}
-use Rattle.document_model.specs.Slots.{Rule, own, bound, Row, rows, rows_by, rows_in_order, dynamic_rows, row_in, row_of, type_of, rule_of}
+use Rattle.document_model.specs.Slots.{Rule, own, bound, inherit, global, output, Row, rows, rows_by, rows_in_order, dynamic_rows, row_in, row_of, type_of, rule_of}
 use Rattle.document_model.specs.TypedSlots.{components, type_of_component, property_slots}
 use Rattle.document_model.proofs.Members.{and_then_some, map_some, from_find, from_map, from_flat_map}
 use Rattle.document_outcomes.specs.Full.{Meanings, reading, fitted, outcome_by_rule, local}
 use Rattle.document_outcomes.proofs.RowLemmas.{IsWritten, dynamic-written}
+use Rattle.doc_tables.specs.Accessors.{tree_by}
 use Rattle.doc_tables.specs.VarSets.{IsVarSet, HoldsVarSets}
 use Rattle.doc_tables.proofs.VarSetLemmas.{of_all}
 
@@ -82,18 +83,27 @@ module _ (d : Document) (holds : HoldsVarSets d) where
       let f = row-dynamic s m.0 m.1 in
       subst IsWritten (sym m.2) (dynamic-written f.0 m.0 f.1)
 
-module _ (m : Meanings) (d : Document) (s : Slot) (w : Slot → Outcome) where
-  -- a slot with a rule has an object
-  object-found : (rule : Rule) → rule_of d s ≡ Some rule → (o : Object) × (object_named d s.object ≡ Some o)
-  object-found rule h =
-      let r = map_some (λ (q : Row). q.rule) (row_of d s) rule h in
-      let o = and_then_some (λ (o : Object). row_in (rows d o) s.name) (object_named d s.object) r.0 r.1 in
-      (o.0, o.1)
+-- a slot with a rule has an object
+pub object-found : (d : Document) (s : Slot) (rule : Rule) → rule_of d s ≡ Some rule → (o : Object) × (object_named d s.object ≡ Some o)
+object-found d s rule h =
+    let r = map_some (λ (q : Row). q.rule) (row_of d s) rule h in
+    let o = and_then_some (λ (o : Object). row_in (rows d o) s.name) (object_named d s.object) r.0 r.1 in
+    (o.0, o.1)
 
+-- a rule with an expression is that expression
+pub bound-rule : (rule : Option Rule) (e : Tree) → option_and_then tree_by rule ≡ Some e → rule ≡ Some (bound e)
+bound-rule None e h = absurd (cc)
+bound-rule (Some (own u)) e h = absurd (cc)
+bound-rule (Some (bound f)) e h = let same : f ≡ e = cc in ap (λ (q : Tree). Some (bound q)) same
+bound-rule (Some (inherit u)) e h = absurd (cc)
+bound-rule (Some (global k)) e h = absurd (cc)
+bound-rule (Some (output k)) e h = absurd (cc)
+
+module _ (m : Meanings) (d : Document) (s : Slot) (w : Slot → Outcome) where
   local-by : (rule : Rule) (h : rule_of d s ≡ Some rule) → (o : Object) × (object_named d s.object ≡ Some o) × (local m d s w ≡ outcome_by_rule m d s o w (Some rule))
   unfolding local
   local-by rule h =
-      let o = object-found rule h in (
+      let o = object-found d s rule h in (
         o.0,
         o.1,
         ap (λ (q : Option Object). option_map_or (λ o. outcome_by_rule m d s o w (rule_of d s)) q (Err Range)) o.1

@@ -1,3 +1,4 @@
 pub mod Kept
+pub mod Evaluated
 pub mod Steps
 pub mod Order

@@ -1,9 +1,9 @@
-ghost use Rattle.std.specs.Prelude.{◌≡◌, ◌+◌, ◌-◌, ◌<◌, ◌≤◌, ◌^◌, ℕ, IfOk, IsSome, None, OnOk, length, min, replicate};
+ghost use Rattle.std.specs.Prelude.{◌≡◌, ◌+◌, ◌-◌, ◌<◌, ◌≤◌, ◌^◌, IfOk, None, OnOk, length, min, replicate};
 ghost use Rattle.std.specs.List.{sum_by};
-ghost use Rattle.fc_base.specs.Graph.{IsIn};
-ghost use Rattle.doc_tables.specs.Numbered.{slot_at};
-ghost use Rattle.recompute.specs.Order.{AreKeptFor, WorksOut};
-ghost use Rattle.recompute.specs.Steps.{nodes_at, trees_at};
+ghost use Rattle.document_outcomes.specs.Typed.{no_features};
+ghost use Rattle.recompute.specs.Kept.{AreFull};
+ghost use Rattle.recompute.specs.Order.{OrdersNumbers};
+ghost use Rattle.recompute.specs.Steps.{nodes_at, visits_at};
 
 use crate::given::given;
 use doc_tables::Tables;
@@ -22,7 +22,7 @@ pub fn no_outcomes(alloc: Global, count: u32) -> Result<Vec<Option<Outcome>>, Al
     Ok(outcomes)
 }
 
-/// Works out the slots of these numbers, one after another.
+/// Works out the slots of these numbers, one after another, each behind those that it depends on.
 pub fn work_out<L>(
     alloc: Global,
     tables: &Tables,
@@ -30,12 +30,11 @@ pub fn work_out<L>(
     outcomes: &mut [Option<Outcome>],
     steps: &mut Steps<L>,
 ) -> Result<(), AllocError>
-    requires used { (n : ℕ) → IsIn n order.now → IsSome (slot_at tables.now n) }
+    requires ordered { OrdersNumbers tables.now order.now }
     requires sized { outcomes.old ≡ replicate (length tables.now.slots) None }
     requires counted { steps.old < 2 ^ 64 }
-    ensures works_out { OnOk result (WorksOut tables.now order.now outcomes.old outcomes.new) }
-    ensures kept { OnOk result (AreKeptFor order.now outcomes.new) }
-    ensures at_least { OnOk result (min (steps.old + sum_by (trees_at tables.now) order.now) (2 ^ 64 - 1) ≤ steps.new) }
+    ensures outcomes { OnOk result (AreFull no_features tables.now outcomes.new) }
+    ensures steps { OnOk result (steps.new ≡ min (steps.old + sum_by (visits_at no_features tables.now) order.now) (2 ^ 64 - 1)) }
     ensures never_less { steps.old ≤ steps.new }
     ensures at_most { steps.new ≤ min (steps.old + sum_by (nodes_at tables.now) order.now) (2 ^ 64 - 1) }
 {

@@ -3,8 +3,9 @@ ghost use Rattle.expr_tree.specs.Nodes.{node_count};
 ghost use Rattle.expr_tree.specs.References.{reference_count};
 ghost use Rattle.doc_tables.specs.Accessors.{tree_at};
 ghost use Rattle.doc_tables.specs.Numbered.{slot_at};
+ghost use Rattle.document_outcomes.specs.Typed.{no_features};
 ghost use Rattle.recompute.specs.Kept.{IsGiven};
-ghost use Rattle.recompute.specs.Steps.{nodes_at, trees_at};
+ghost use Rattle.recompute.specs.Steps.{nodes_at, visits_kept};
 
 use crate::behind::Behind;
 use crate::fitting::fitted;
@@ -28,8 +29,8 @@ fn given_by_tree<L>(
     requires tree { tree_at tables.now slot.0 ≡ Some tree.now }
     requires references { reference_count tree.now < 2 ^ 32 }
     requires counted { steps.old < 2 ^ 64 }
-    ensures outcome { IfOk result (IsGiven tables.now outcomes.now slot.0) }
-    ensures at_least { OnOk result (min (steps.old + 1) (2 ^ 64 - 1) ≤ steps.new) }
+    ensures outcome { IfOk result (IsGiven no_features tables.now outcomes.now slot.0) }
+    ensures steps { OnOk result (steps.new ≡ min (steps.old + visits_kept tables.now outcomes.now slot.0) (2 ^ 64 - 1)) }
     ensures never_less { steps.old ≤ steps.new }
     ensures at_most { steps.new ≤ min (steps.old + node_count tree.now) (2 ^ 64 - 1) }
 {
@@ -56,8 +57,8 @@ pub fn given<L>(
 ) -> Result<Outcome, AllocError>
     requires slot { IsSome (slot_at tables.now slot.0) }
     requires counted { steps.old < 2 ^ 64 }
-    ensures outcome { IfOk result (IsGiven tables.now outcomes.now slot.0) }
-    ensures at_least { OnOk result (min (steps.old + trees_at tables.now slot.0) (2 ^ 64 - 1) ≤ steps.new) }
+    ensures outcome { IfOk result (IsGiven no_features tables.now outcomes.now slot.0) }
+    ensures steps { OnOk result (steps.new ≡ min (steps.old + visits_kept tables.now outcomes.now slot.0) (2 ^ 64 - 1)) }
     ensures never_less { steps.old ≤ steps.new }
     ensures at_most { steps.new ≤ min (steps.old + nodes_at tables.now slot.0) (2 ^ 64 - 1) }
 {

@@ -1,10 +1,11 @@
-ghost use Rattle.std.specs.Prelude.{◌≡◌, ◌+◌, ◌-◌, ◌<◌, ◌≤◌, ◌^◌, List, [], length, min, option_map, IfOk, OnOk, OnErr};
-ghost use Rattle.document_model.specs.Counts.{expressions, nodes_of_document};
-ghost use Rattle.document_outcomes.specs.Called.{Entry, called};
+ghost use Rattle.std.specs.Prelude.{◌≡◌, ◌+◌, ◌-◌, ◌<◌, ◌≤◌, ◌^◌, List, Option, length, min, option_map, IfOk, OnOk, OnErr};
+ghost use Rattle.property_types.specs.Values.{Outcome};
+ghost use Rattle.document_outcomes.specs.Called.{called};
 ghost use Rattle.document_outcomes.specs.Faults.{IsValid};
-ghost use Rattle.document_outcomes.specs.Full.{Meanings};
+ghost use Rattle.document_outcomes.specs.Typed.{no_features};
 ghost use Rattle.doc_tables.specs.Numbered.{at_number};
-ghost use Rattle.recompute.specs.Kept.{AreFull, faults_of};
+ghost use Rattle.recompute.specs.Evaluated.{Evaluated, nodes_of_slots, stale_slots, to_be_done};
+ghost use Rattle.recompute.specs.Kept.{AreFull, AreLast, entries, faults_of, nothing_kept};
 
 use crate::evaluation::{no_outcomes, work_out};
 use crate::faults::fault_count;
@@ -16,19 +17,21 @@ use property_types::{Outcome, Outcomes};
 use std::alloc::{AllocError, Global};
 use std::marker::Model;
 
-/// The outcomes of slots, by their numbers. They are seen as a list, none where none is kept.
+/// What is kept from one recompute to the next: the outcomes of slots by their numbers, none where none
+/// is kept, and the input lists of the last recompute with what their features gave. As yet no document
+/// has a feature, so no input list is kept.
 #[derive(Drop)]
 pub struct Values {
     outcomes: Vec<Option<Outcome>>,
 }
 
 impl Model for Values {
-    ghost use Rattle.std.specs.Prelude.{List, Option};
-    ghost use Rattle.property_types.specs.Values.{Outcome};
+    ghost use Rattle.std.specs.Prelude.{[]};
+    ghost use Rattle.recompute.specs.Kept.{Kept};
 
-    ghost Value = { List (Option Outcome) };
+    ghost Value = { Kept };
 
-    ghost view = { λ v. v.outcomes.items };
+    ghost view = { λ v. record { outcomes = v.outcomes.items; last = [] } };
 }
 
 /// What a recompute has done.
@@ -48,13 +51,12 @@ fn worked_out<L>(
 ) -> Result<Vec<Option<Outcome>>, AllocError>
     requires valid { IsValid tables.now.document }
     requires counted { steps.old < 2 ^ 64 }
-    ensures outcomes { IfOk result (λ v. (m : Meanings) → AreFull m tables.now v.items) }
-    ensures at_least { OnOk result (min (steps.old + length (expressions tables.now.document)) (2 ^ 64 - 1) ≤ steps.new) }
+    ensures outcomes { IfOk result (λ v. AreFull no_features tables.now v.items) }
+    ensures evaluated { OnOk result ((before : List (Option Outcome)) → Evaluated no_features tables.now before steps.old steps.new) }
     ensures never_less { steps.old ≤ steps.new }
-    ensures at_most { steps.new ≤ min (steps.old + nodes_of_document tables.now.document) (2 ^ 64 - 1) }
+    ensures at_most { steps.new ≤ min (steps.old + nodes_of_slots tables.now.document (to_be_done tables.now.document)) (2 ^ 64 - 1) }
 {
     tables.is_numbered(); // for the proof
-    tables.holds_var_sets(); // for the proof
     tables.has_distinct_slots(); // for the proof
     let order = evaluation_order(alloc, tables)?;
     let mut outcomes = no_outcomes(alloc, tables.slot_limit())?;
@@ -65,7 +67,7 @@ fn worked_out<L>(
 impl Values {
     /// No outcomes.
     pub fn new(alloc: Global) -> Values
-        ensures { result ≡ [] }
+        ensures { result ≡ nothing_kept }
     {
         Values {
             outcomes: Vec::new(alloc),
@@ -74,7 +76,7 @@ impl Values {
 
     /// The outcome of a slot; none exactly where none is kept.
     pub fn peek(&self, slot: SlotId) -> Option<&Outcome>
-        ensures { option_map (λ o. o.now) result ≡ at_number self.now slot.0 }
+        ensures { option_map (λ o. o.now) result ≡ at_number self.now.outcomes slot.0 }
     {
         kept_at(&self.outcomes, slot)
     }
@@ -89,26 +91,30 @@ impl Values {
     }
 
     /// Works the outcome of each slot out from nothing: each once, after those that it depends on. Of
-    /// the outcomes that were there before nothing is left; without memory they all stay. It grows with
-    /// the slots, the nodes of their expressions and their dependencies.
+    /// the outcomes that were there before nothing is left; without memory they all stay. Each node that
+    /// is visited is a step. It grows with the slots, the nodes of their expressions and their
+    /// dependencies.
     pub fn recompute<L>(
         &mut self,
         tables: &Tables,
         steps: &mut Steps<L>,
     ) -> Result<Report, AllocError>
         requires valid { IsValid tables.now.document }
-        ensures outcomes { OnOk result ((m : Meanings) → AreFull m tables.now self.new) }
-        ensures calls { IfOk result (λ report. (m : Meanings) (last : List Entry) → report.calls ≡ length (called m last tables.now.document)) }
-        ensures faults { IfOk result (λ report. (m : Meanings) → report.faults ≡ faults_of m tables.now.document) }
+        ensures outcomes { OnOk result (AreFull no_features tables.now self.new.outcomes) }
+        ensures last { OnOk result (AreLast no_features tables.now.document self.new.last) }
+        ensures calls { IfOk result (λ report. report.calls ≡ length (called no_features (entries self.old.last) tables.now.document)) }
+        ensures faults { IfOk result (λ report. report.faults ≡ faults_of no_features tables.now.document) }
         ensures unchanged { OnErr result (self.new ≡ self.old) }
-        ensures at_least { OnOk result (min (steps.old + length (expressions tables.now.document)) (2 ^ 64 - 1) ≤ steps.new) }
+        ensures evaluated { OnOk result (Evaluated no_features tables.now self.old.outcomes steps.old steps.new) }
+        ensures at_least { OnOk result (min (steps.old + length (stale_slots no_features tables.now self.old.outcomes)) (2 ^ 64 - 1) ≤ steps.new) }
         ensures never_less { steps.old ≤ steps.new }
-        ensures at_most { steps.new ≤ min (steps.old + nodes_of_document tables.now.document) (2 ^ 64 - 1) }
+        ensures at_most { steps.new ≤ min (steps.old + nodes_of_slots tables.now.document (to_be_done tables.now.document)) (2 ^ 64 - 1) }
     {
         steps.is_bounded(); // for the proof
         let alloc = *self.outcomes.allocator();
         tables.is_numbered(); // for the proof
         tables.holds_var_sets(); // for the proof
+        tables.has_distinct_slots(); // for the proof
         let outcomes = worked_out(alloc, tables, steps)?;
         let faults = fault_count(alloc, tables, &outcomes)?;
         self.outcomes = outcomes;
@@ -119,7 +125,7 @@ impl Values {
 impl Outcomes for Values {
     ghost use Rattle.doc_tables.specs.Numbered.{at_number};
 
-    ghost outcomes = { λ values slot. at_number values slot.0 };
+    ghost outcomes = { λ values slot. at_number values.outcomes slot.0 };
 
     fn outcome(&self, slot: SlotId) -> Option<&Outcome> {
         self.peek(slot)

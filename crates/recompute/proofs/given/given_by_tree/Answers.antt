@@ -1,11 +1,14 @@
-use Rattle.std.proofs.Common.{◌≡◌, List, sym, subst}
+use Rattle.std.proofs.Common.{◌≡◌, List, sym, subst, arith}
 use Rattle.property_types.specs.Values.{Outcome}
 use Rattle.recompute.specs.Kept.{IsGiven}
 use Rattle.document_outcomes.specs.Full.{fitted}
+use Rattle.document_outcomes.specs.Typed.{no_features}
 use Rattle.std.specs.Prelude.{Option, option_map}
 use Rattle.fc_base.specs.declared.ids.SlotId.{SlotId}
 use Rattle.doc_tables.specs.Accessors.{AreReached, reached_at}
-use Rattle.recompute.proofs.ReadingLemmas.{type-fits, given-fitted, on_ok}
+use Rattle.doc_tables.specs.Numbered.{slot_at}
+use Rattle.recompute.proofs.KeptLemmas.{some_value}
+use Rattle.recompute.proofs.ReadingLemmas.{type-fits, given-fitted, on_ok, anyway, visits-tree}
 use Rattle.recompute.proofs.given.given_by_tree.Goals as goal
 
 pub fitted-requires : goal.fitted-requires
@@ -13,8 +16,17 @@ fitted-requires g c = type-fits c.args.tables.now c.is_numbered.ensures c.holds_
 
 pub returns-clause-outcome : goal.returns-clause-outcome
 returns-clause-outcome g c =
-    on_ok (λ (o : Outcome). o ≡ fitted (option_map (λ p. p.now) c.type_of.result) c.in_ok-given.given) (IsGiven c.args.tables.now c.args.outcomes.now c.args.slot.0) c.fitted.result
+    on_ok (λ (o : Outcome). o ≡ fitted (option_map (λ p. p.now) c.type_of.result) c.in_ok-given.given) (IsGiven no_features c.args.tables.now c.args.outcomes.now c.args.slot.0) c.fitted.result
     (λ o fits.
-    given-fitted c.args.tables.now c.is_numbered.ensures c.holds_var_sets.ensures c.args.outcomes.now c.args.slot.0 c.args.tree.now c.deref.result.now
+    given-fitted c.args.tables.now c.is_numbered.ensures c.holds_var_sets.ensures c.args.outcomes.now no_features c.args.slot.0 c.args.tree.now c.deref.result.now
     (option_map (λ p. p.now) c.type_of.result) c.in_ok-given.given o c.requires.tree (subst (λ (ids : List (Option SlotId)). AreReached c.args.tables.now ids (reached_at c.args.tables.now c.args.slot.0)) (sym c.deref.ensures.value) c.in_ok-reached.ensures) c.type_of.ensures c.in_ok-given.ensures.outcome fits)
     c.fitted.ensures
+
+pub returns-clause-steps : goal.returns-clause-steps
+returns-clause-steps g c =
+    let found = some_value (slot_at c.args.tables.now c.args.slot.0) c.requires.slot in
+    let visits =
+    visits-tree c.args.tables.now c.is_numbered.ensures c.holds_var_sets.ensures c.args.outcomes.now c.args.slot.0 found.0 c.args.tree.now c.deref.result.now
+    found.1 c.requires.tree (subst (λ (ids : List (Option SlotId)). AreReached c.args.tables.now ids (reached_at c.args.tables.now c.args.slot.0)) (sym c.deref.ensures.value) c.in_ok-reached.ensures) in
+    let steps = c.in_ok-given.ensures.steps in
+    anyway _ c.fitted.result (omega arith)
