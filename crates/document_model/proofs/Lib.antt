@@ -5,3 +5,6 @@ pub mod WorkedObjectLemmas
 pub mod WorkedRowLemmas
 pub mod Members
 pub mod DependencyLemmas
+pub mod DistinctNames
+pub mod FormLemmas
+pub mod TypedContents

@@ -12,6 +12,7 @@ pub mod Contents
 pub mod KeptText
 pub mod ForeignProperties
 pub mod WellFormed
+pub mod FormKept
 pub mod Examples
 pub mod LinkedBox
 pub mod WorkedForm

@@ -3,6 +3,15 @@ ghost use Rattle.fc_base.specs.Graph.{Closed};
 ghost use Rattle.document_model.specs.Dependencies.{deps};
 ghost use Rattle.document_model.specs.Document.{Document};
 ghost use Rattle.document_model.specs.Examples.{OneVarsetWorks};
+ghost use Rattle.document_model.specs.FormKept.{
+  NewObjectsAreWellFormed,
+  NewPropertiesAreWellFormed,
+  AddedObjectsKeepForm,
+  RemovedObjectsKeepForm,
+  AddedPropertiesKeepForm,
+  RemovedPropertiesKeepForm,
+  ChangedContentsKeepForm,
+};
 ghost use Rattle.document_model.specs.LinkedBox.{LinkedBoxWorks};
 ghost use Rattle.document_model.specs.Slots.{slots};
 ghost use Rattle.document_model.specs.WorkedForm.{CountsWork, EditsWork, KindsWork, TypesWork};
@@ -23,6 +32,22 @@ pub fn linked_box_works()
 /// What depends on others depends on slots of the document alone, in every document.
 pub fn dependencies_are_slots()
     ensures { (d : Document) → Closed (deps d) (slots d) }
+{}
+
+/// A new object of any kind is well-formed, and so is a new property of any type that may be added.
+pub fn new_objects_are_well_formed()
+    ensures objects { NewObjectsAreWellFormed }
+    ensures properties { NewPropertiesAreWellFormed }
+{}
+
+/// A well-formed document stays so where an object or a property of a new name is added, where one is
+/// removed, and where a content of a slot's type is put into the slot.
+pub fn edits_keep_form()
+    ensures object_added { AddedObjectsKeepForm }
+    ensures object_removed { RemovedObjectsKeepForm }
+    ensures property_added { AddedPropertiesKeepForm }
+    ensures property_removed { RemovedPropertiesKeepForm }
+    ensures content_changed { ChangedContentsKeepForm }
 {}
 
 /// Types have their kinds, new objects their first inputs, slots their types, and documents their
