@@ -24,7 +24,7 @@ use Rattle.document_model.specs.declared.kind.ObjectKind.TheVariants.{VarSet, Sh
 use Rattle.document_model.specs.Contents.{IsContentOf, AreContents, AreInputs}
 use Rattle.document_model.specs.Document.{Document, Object, Property, Cell, object_named}
 use Rattle.document_model.specs.Edited.{zeroed, at_default, first_inputs, new_object, with_object, with_changed, new_property, with_property, contents_with, property_with, input_with, with_content, without_object, without_dynamic, without_property}
-use Rattle.document_model.specs.Kinds.{has_dynamics, has_members, is_dynamic_name, is_link, is_sheet, names_of_kind}
+use Rattle.document_model.specs.Kinds.{FollowsPlans, HasKindOfType, has_dynamics, has_members, is_dynamic_name, is_link, is_sheet, kind_of_type, names_of_kind, type_of_kind}
 use Rattle.document_model.specs.TypedSlots.{property_slots, placement_slots, link_slots, unplaced_slots, plan_slots, input_slots, dynamic_slots}
 use Rattle.document_model.specs.WellFormed.{IsKind, IsPlan, IsProperty, IsObject, IsWellFormed, Only, is_added_type}
 use Rattle.document_model.proofs.DistinctNames.{distinct-end, distinct-fewer, distinct-fewer_behind, only-found, not-among, all-in, all-end, all-fewer, all-changed, names-kept}
@@ -195,6 +195,27 @@ IsWellFormed-with_changed d name change is kept = record {
   between = is.between;
   after = is.after;
 }
+
+-- ---- the kinds of objects
+
+pub FollowsPlans-with_object : (plans : List Slots) (d : Document) (o : Object) → FollowsPlans plans d → HasKindOfType plans o → FollowsPlans plans (with_object d o)
+FollowsPlans-with_object plans d o follow one = all-end (HasKindOfType plans) d.objects o follow one
+
+pub FollowsPlans-without_object : (plans : List Slots) (d : Document) (name : List ℕ) → FollowsPlans plans d → FollowsPlans plans (without_object d name)
+FollowsPlans-without_object plans d name follow = all-fewer (HasKindOfType plans) (λ (o : Object). not (same_text o.name name)) d.objects follow
+
+-- a change that keeps the kinds of objects
+pub FollowsPlans-with_changed :
+    (plans : List Slots) (d : Document) (name : List ℕ) (change : Object → Object) → FollowsPlans plans d
+    → ((o : Object) → IsIn o d.objects → (change o).kind ≡ o.kind) → FollowsPlans plans (with_changed d name change)
+FollowsPlans-with_changed plans d name change follow kept =
+    all-changed (HasKindOfType plans) (changed_if name change) d.objects
+    (λ o i one.
+    elim (same_text o.name name) as (λ b. HasKindOfType plans (cond b (change o) o)) [
+      | true ↦ subst (λ (kind : ObjectKind). kind ≡ kind_of_type plans (type_of_kind kind)) (sym (kept o i)) one
+      | false ↦ one
+    ])
+    follow
 
 -- ---- properties that are added and removed
 
