@@ -1,29 +1,29 @@
 -- Counts of what is held.
-use Rattle.std.proofs.Common.{◌≡◌, ◌+◌, ◌<◌, ℕ, List, [], ◌∷◌, ◌++◌, map, length, sum_by, Option, Some, None, IsSome, is_some, get_or, slice_get, refl, sym, ap, subst, ◌∙◌, arith}
+use Rattle.std.proofs.Common.{◌≡◌, ◌+◌, ℕ, List, [], ◌∷◌, map, length, sum_by, Option, Some, None, IsSome, is_some, slice_get, refl, sym, ap, subst, ◌∙◌, arith}
 use Rattle.std.specs.List.{filter_map, flat_map, cons_option, AllByRecursion}
-use Rattle.std.specs.Option.{option_and_then, option_map, option_map_or, option_len, option_to_list}
+use Rattle.std.specs.Option.{option_and_then, option_map, option_map_or, option_len}
 use Rattle.std.proofs.lemmas.List.{length-map}
 use Rattle.std.proofs.lemmas.List.Concat.{length-flat_map}
 use Rattle.std.proofs.lemmas.List.Sums.{sum_by-append, sum_by-cons}
-use Rattle.std.proofs.lemmas.Option.{get_or_from_slice_get, slice_get-map}
+use Rattle.std.proofs.lemmas.Option.{slice_get-map}
 use Rattle.object_paths.specs.Slots.{Slot}
 use Rattle.expr_tree.specs.Nodes.{node_count}
-use Rattle.expr_tree.specs.References.{Reference, references}
+use Rattle.expr_tree.specs.References.{references}
 use Rattle.expr_tree.specs.Tree.{Tree}
 use Rattle.document_model.specs.declared.content.Content.{Content}
 use Rattle.document_model.specs.declared.content.Content.TheVariants.{Own, Bound}
-use Rattle.document_model.specs.Counts.{contents, dependencies_of_document, expressions, nodes_of_document, tree_of_content}
+use Rattle.document_model.specs.Counts.{contents, dependencies_of_document, nodes_of_document, tree_of_content}
 use Rattle.document_model.specs.Dependencies.{deps, slot_reached}
-use Rattle.document_model.specs.Document.{Document, Object, Property}
-use Rattle.document_model.specs.Slots.{Row, rows, rule_of_content, slot_of, slots}
+use Rattle.document_model.specs.Document.{Document, Object}
+use Rattle.document_model.specs.Slots.{rows, rule_of_content, slot_of, slots}
 use Rattle.doc_tables.specs.declared.tables.Tables.TheInside.{Inside}
 use Rattle.doc_tables.specs.Accessors.{tree_by}
-use Rattle.doc_tables.specs.Counted.{dependencies_of_object, nodes_of_content, nodes_of_objects, nodes_of_properties, reached_count, reached_of_content, reached_of_properties}
-use Rattle.doc_tables.specs.Entries.{present, reached_by}
-use Rattle.doc_tables.specs.Held.{object_held, document_held, numbered_held, IsObjectHeld, IsHeld}
-use Rattle.doc_tables.specs.Numbered.{Numbered, name_at, object_at}
+use Rattle.doc_tables.specs.Counted.{dependencies_of_object, nodes_of_content, nodes_of_objects, nodes_of_properties, properties_of_objects, reached_of_content, reached_of_properties}
+use Rattle.doc_tables.specs.Entries.{present}
+use Rattle.doc_tables.specs.Held.{object_held, document_held, numbered_held, IsHeld}
+use Rattle.doc_tables.specs.Numbered.{Numbered, name_at}
 use Rattle.doc_tables.proofs.DependencyLemmas.{deps-of_property}
-use Rattle.doc_tables.proofs.HeldLemmas.{Named, Owned, all_from_places, member_below, name_at-place, slot_named, slots_in, slots-held, slots-of_object}
+use Rattle.doc_tables.proofs.HeldLemmas.{Named, Owned, all_from_places, name_at-held, slot_named, slots_in, slots-held, slots-of_object}
 use Rattle.doc_tables.proofs.ResolveLemmas.{object_at-place}
 use Rattle.doc_tables.proofs.VarSetsHeld.{contents-own}
 
@@ -64,12 +64,11 @@ pub nodes-read : (v : Numbered) (t : Inside) → numbered_held t ≡ v → nodes
 nodes-read v t is = subst (λ (w : Numbered). nodes_of_document w.document ≡ nodes_of_objects t.objects.entries) is (nodes-held t.objects.entries)
 
 -- its slots
-pub slots-counted : (v : Numbered) (t : Inside) → IsHeld t → numbered_held t ≡ v → length (slots v.document) ≡ length t.places.items
+pub slots-counted : (v : Numbered) (t : Inside) → IsHeld t → numbered_held t ≡ v → length (slots v.document) ≡ properties_of_objects t.objects.entries
 slots-counted v t held is =
-    subst (λ (w : Numbered). length (slots w.document) ≡ length t.places.items) is
+    subst (λ (w : Numbered). length (slots w.document) ≡ properties_of_objects t.objects.entries) is
     (ap (length {A = Slot}) (slots-held t held) ∙ length-flat_map slots_in t.objects.entries
-    ∙ sum_by-same (λ (o : Owned). length (slots_in o)) (λ (o : Owned). length o.1.properties.entries) t.objects.entries (λ o. length-map o.1.properties.entries (slot_named o))
-    ∙ held.all)
+    ∙ sum_by-same (λ (o : Owned). length (slots_in o)) (λ (o : Owned). length o.1.properties.entries) t.objects.entries (λ o. length-map o.1.properties.entries (slot_named o)))
 
 -- a dependency for each reference that names a slot
 present-counted : {A B : Type 0} (f : A → Option B) (xs : List A) → length (present (map f xs)) ≡ sum_by (λ x. option_len (f x)) xs
@@ -82,53 +81,51 @@ present-counted {A} {B} f (x ∷ xs) =
     ∙ sym (sum_by-cons (λ y. option_len (f y)) x xs)
 
 module _ (t : Inside) (held : IsHeld t) (i : ℕ) (o : Owned) (at : slice_get t.objects.entries i ≡ Some o) where
-  counted-content : (c : Content) → length (present (option_map_or (λ (e : Tree). map (slot_reached (document_held t.objects.entries) (object_held o)) (references e)) (tree_by (rule_of_content c)) [])) ≡ reached_of_content (numbered_held t) i c
+  counted-content : (c : Content) → length (present (option_map_or (λ (e : Tree). map (slot_reached (document_held t.objects.entries) (object_held o)) (references e)) (tree_by (rule_of_content c)) [])) ≡ reached_of_content (numbered_held t) o.1.number.0 c
   counted-content (Own v) = refl
   counted-content (Bound e) =
       let d = document_held t.objects.entries in
       present-counted (slot_reached d (object_held o)) (references e)
       ∙ ap (λ (q : Option Object). sum_by (λ r. option_len (option_and_then (λ (x : Object). slot_reached d x r) q)) (references e)) (sym (object_at-place t held i o at))
 
-  counted-property : (j : ℕ) (e : Named) → slice_get o.1.properties.entries j ≡ Some e → length (deps (document_held t.objects.entries) (slot_named o e)) ≡ reached_of_content (numbered_held t) i e.1.content
+  counted-property : (j : ℕ) (e : Named) → slice_get o.1.properties.entries j ≡ Some e → length (deps (document_held t.objects.entries) (slot_named o e)) ≡ reached_of_content (numbered_held t) o.1.number.0 e.1.content
   counted-property j e there =
       ap (length {A = Slot}) (deps-of_property t held (record { object = i; property = j }) o e (record { object = at; property = there }))
       ∙ counted-content e.1.content
 
-  counted-properties : (es : List Named) → AllByRecursion (λ (e : Named). length (deps (document_held t.objects.entries) (slot_named o e)) ≡ reached_of_content (numbered_held t) i e.1.content) es
-      → sum_by (λ s. length (deps (document_held t.objects.entries) s)) (map (slot_named o) es) ≡ reached_of_properties (numbered_held t) i es
+  counted-properties : (es : List Named) → AllByRecursion (λ (e : Named). length (deps (document_held t.objects.entries) (slot_named o e)) ≡ reached_of_content (numbered_held t) o.1.number.0 e.1.content) es
+      → sum_by (λ s. length (deps (document_held t.objects.entries) s)) (map (slot_named o) es) ≡ reached_of_properties (numbered_held t) o.1.number.0 es
   counted-properties [] h = refl
   counted-properties (e ∷ es) h =
       sum_by-cons (λ s. length (deps (document_held t.objects.entries) s)) (slot_named o e) (map (slot_named o) es)
       ∙ (λ j. h.0 j + counted-properties es h.1 j)
-      ∙ sym (sum_by-cons (λ (d : Named). reached_of_content (numbered_held t) i d.1.content) e es)
+      ∙ sym (sum_by-cons (λ (d : Named). reached_of_content (numbered_held t) o.1.number.0 d.1.content) e es)
 
-  counted-object : dependencies_of_object (document_held t.objects.entries) (object_held o) ≡ reached_of_properties (numbered_held t) i o.1.properties.entries
+  counted-object : dependencies_of_object (document_held t.objects.entries) (object_held o) ≡ reached_of_properties (numbered_held t) o.1.number.0 o.1.properties.entries
   counted-object =
       let d = document_held t.objects.entries in
       ap (sum_by (λ s. length (deps d s))) (slots-of_object t held i o at)
-      ∙ counted-properties o.1.properties.entries (all_from_places (λ (e : Named). length (deps d (slot_named o e)) ≡ reached_of_content (numbered_held t) i e.1.content) o.1.properties.entries counted-property)
+      ∙ counted-properties o.1.properties.entries (all_from_places (λ (e : Named). length (deps d (slot_named o e)) ≡ reached_of_content (numbered_held t) o.1.number.0 e.1.content) o.1.properties.entries counted-property)
 
--- the dependencies of the object of a number
-pub object-counted : (v : Numbered) (t : Inside) → IsHeld t → numbered_held t ≡ v → (i : ℕ) (o : Owned) → Some o ≡ slice_get t.objects.entries i
-    → reached_of_properties v i o.1.properties.entries ≡ option_map_or (dependencies_of_object v.document) (object_at v i) 0
-object-counted v t held is i o at =
-    subst (λ (w : Numbered). reached_of_properties w i o.1.properties.entries ≡ option_map_or (dependencies_of_object w.document) (object_at w i) 0) is
-    (sym (ap (λ (q : Option Object). option_map_or (dependencies_of_object (document_held t.objects.entries)) q 0) (object_at-place t held i o (sym at)) ∙ counted-object t held i o (sym at)))
+-- the dependencies of the object at a place
+module _ (v : Numbered) (t : Inside) (held : IsHeld t) (is : numbered_held t ≡ v) where
+  object-there : (i : ℕ) → slice_get v.document.objects i ≡ option_map object_held (slice_get t.objects.entries i)
+  object-there i = subst (λ (w : Numbered). slice_get w.document.objects i ≡ option_map object_held (slice_get t.objects.entries i)) is (slice_get-map object_held t.objects.entries i)
+
+  pub object-counted : (i : ℕ) (o : Owned) → Some o ≡ slice_get t.objects.entries i
+      → reached_of_properties v o.1.number.0 o.1.properties.entries ≡ option_map_or (dependencies_of_object v.document) (slice_get v.document.objects i) 0
+  object-counted i o at =
+      subst (λ (w : Numbered). reached_of_properties w o.1.number.0 o.1.properties.entries ≡ dependencies_of_object w.document (object_held o)) is (sym (counted-object t held i o (sym at)))
+      ∙ sym (ap (λ (q : Option Object). option_map_or (dependencies_of_object v.document) q 0) (object-there i ∙ ap (option_map object_held) (sym at)))
+
+  -- there is none past the last
+  pub none-counted : (i : ℕ) → None ≡ slice_get t.objects.entries i → 0 ≡ option_map_or (dependencies_of_object v.document) (slice_get v.document.objects i) 0
+  none-counted i past = sym (ap (λ (q : Option Object). option_map_or (dependencies_of_object v.document) q 0) (object-there i ∙ ap (option_map object_held) (sym past)))
+
+  -- the number of an entry is in use
+  pub number-used : (i : ℕ) (o : Owned) → Some o ≡ slice_get t.objects.entries i → IsSome (name_at v o.1.number.0)
+  number-used i o at = subst (λ (w : Numbered). IsSome (name_at w o.1.number.0)) is (ap is_some (name_at-held t held i o (sym at)))
 
 -- all dependencies, object by object
 pub document-counted : (d : Document) → sum_by (dependencies_of_object d) d.objects ≡ dependencies_of_document d
 document-counted d = sym (sum_by-flat_map (λ s. length (deps d s)) (λ o. map (λ r. slot_of o r.name) (rows d o)) d.objects)
-
--- the object at a place of the document has the number of the place
-pub object-of_place : (v : Numbered) (t : Inside) → IsHeld t → numbered_held t ≡ v → (i : ℕ) (d : Object) → i < length t.objects.entries → object_at v i ≡ Some (get_or v.document.objects i d)
-object-of_place v t held is i d below =
-    let m = member_below t.objects.entries i below in
-    subst (λ (w : Numbered). object_at w i ≡ Some (get_or w.document.objects i d)) is
-    (object_at-place t held i m.0 m.1
-    ∙ ap Some (sym (get_or_from_slice_get (map object_held t.objects.entries) i (object_held m.0) d (slice_get-map object_held t.objects.entries i ∙ ap (option_map object_held) m.1))))
-
--- each number below the count of objects is in use
-pub name-of_place : (v : Numbered) (t : Inside) → numbered_held t ≡ v → (i : ℕ) → i < length t.objects.entries → IsSome (name_at v i)
-name-of_place v t is i below =
-    let m = member_below t.objects.entries i below in
-    subst (λ (w : Numbered). IsSome (name_at w i)) is (ap is_some (name_at-place t i m.0 m.1))

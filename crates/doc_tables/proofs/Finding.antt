@@ -1,10 +1,14 @@
 -- What a search finds in a list whose keys are distinct texts, and in a mapped list.
-use Rattle.std.proofs.Common.{◌≡◌, ℕ, zero, suc, Bool, true, false, cond, nat_eq, List, [], ◌∷◌, map, Some, None, slice_get, refl, sym, ap, subst, ◌∙◌}
+use Rattle.std.proofs.Common.{◌≡◌, ◌<◌, ℕ, zero, suc, Bool, true, false, cond, nat_eq, nat_lt, List, [], ◌∷◌, map, length, Option, Some, None, IsSome, is_some, Bor, slice_get, get_or, position, refl, sym, ap, subst, ◌∙◌, arith}
 use Rattle.std.proofs.lemmas.Bool.{false≢true}
 use Rattle.std.specs.Cmp.Lexicographic.{pointwise, nat_list_eq_equiv, same_text as texts_tell}
-use Rattle.std.specs.List.{find, IsDistinct, AllByRecursion}
-use Rattle.std.specs.Map.{lookup, lookup_key}
-use Rattle.std.specs.Option.{option_map}
+use Rattle.std.specs.List.{find, position_or_len, IsDistinct, AllByRecursion}
+use Rattle.std.specs.Map.{keys_of, lookup, lookup_key}
+use Rattle.std.specs.Option.{option_and_then, option_copied, option_map}
+use Rattle.std.proofs.lemmas.List.{length-map}
+use Rattle.std.proofs.lemmas.List.Folds.{find_at}
+use Rattle.std.proofs.lemmas.List.Quantifiers.{position-Some}
+use Rattle.std.proofs.lemmas.Option.{slice_get-map, slice_get_past, get_or_from_slice_get}
 use Rattle.std.proofs.lemmas.Map.Keys.{IsDistinct-head, IsDistinct-tail}
 use Rattle.object_paths.specs.Slots.{same_text}
 
@@ -109,3 +113,55 @@ find-some {A} p (y ∷ ys) (suc i) x at h none =
       | true ↦ λ g. absurd (cc)
       | false ↦ λ g. find-some p ys i x at h g
     ] none
+
+-- what is found by a place is what is found
+pub find-position : {A : Type 0} (p : A → Bool) (xs : List A) → find p xs ≡ option_and_then (slice_get xs) (position p xs)
+find-position p xs =
+    find_at p xs
+    ∙ (elim (nat_lt (position_or_len p xs) (length xs)) as (λ b. nat_lt (position_or_len p xs) (length xs) ≡ b → slice_get xs (position_or_len p xs) ≡ option_and_then (slice_get xs) (cond b (Some (position_or_len p xs)) None)) [
+      | true ↦ λ e. refl
+      | false ↦ λ e. slice_get_past xs (position_or_len p xs) (grind (arith, e))
+    ] refl)
+
+-- ---- entries by their keys
+module _ {X : Type 0} (es : List (List ℕ × X)) where
+  -- a look-up finds what stands at a place
+  pub lookup-at : (i : ℕ) (e : List ℕ × X) → IsDistinct (pointwise nat_eq) (keys_of es) → slice_get es i ≡ Some e → lookup (pointwise nat_eq e.0) es ≡ Some e.1
+  lookup-at i e distinct at =
+      lookup-find (pointwise nat_eq e.0) es
+      ∙ ap (option_map (λ (x : List ℕ × X). x.1))
+      (find-same (λ (x : List ℕ × X). pointwise nat_eq e.0 x.0) (λ (x : List ℕ × X). same_text x.0 e.0) es (λ x. same_text-sym e.0 x.0)
+      ∙ find-at (λ (x : List ℕ × X). x.0) es i e distinct at)
+
+  -- what stands at the place of a key has the key
+  pub placed-key : (name : List ℕ) (i : ℕ) → position (pointwise nat_eq name) (keys_of es) ≡ Some i → (e : List ℕ × X) × (slice_get es i ≡ Some e) × (e.0 ≡ name)
+  placed-key name i h =
+      let key : List ℕ × X → List ℕ = λ e. e.0 in
+      let p : List ℕ → Bool = pointwise nat_eq name in
+      let r = position-Some p (keys_of es) i name h in
+      let below : i < length es = omega (arith, r.0, length-map es key) in
+      let m = at_below es i below in
+      let there : slice_get (keys_of es) i ≡ Some m.0.0 = slice_get-map key es i ∙ ap (option_map key) m.1 in
+      let own : get_or (keys_of es) i name ≡ m.0.0 = get_or_from_slice_get (keys_of es) i m.0.0 name there in
+      (m.0, m.1, sym (same_text-told name m.0.0 (ap p (sym own) ∙ r.1)))
+    where
+      at_below : (xs : List (List ℕ × X)) (n : ℕ) → n < length xs → (x : List ℕ × X) × (slice_get xs n ≡ Some x)
+      at_below [] n k = absurd (omega arith)
+      at_below (x ∷ xs) zero k = (x, refl)
+      at_below (x ∷ xs) (suc n) k = at_below xs n (omega arith)
+
+  -- the place of a key is where it stands
+  pub position-at : (i : ℕ) (e : List ℕ × X) → IsDistinct (pointwise nat_eq) (keys_of es) → slice_get es i ≡ Some e → position (pointwise nat_eq e.0) (keys_of es) ≡ Some i
+  position-at i e distinct at =
+      let key : List ℕ × X → List ℕ = λ x. x.0 in
+      let p : List ℕ → Bool = pointwise nat_eq e.0 in
+      let there : slice_get (keys_of es) i ≡ Some e.0 = slice_get-map key es i ∙ ap (option_map key) at in
+      elim (position p (keys_of es)) as (λ r. position p (keys_of es) ≡ r → r ≡ Some i) [
+        | None ↦ λ none. absurd (find-some p (keys_of es) i e.0 there (same_text-refl e.0) (find-position p (keys_of es) ∙ ap (option_and_then (slice_get (keys_of es))) none))
+        | Some m ↦ λ found. let o = placed-key e.0 m found in ap Some (same-place key es m i o.0 e distinct o.1 at o.2)
+      ] refl
+
+-- where a look-up finds something, so does the call
+pub looked-some : {T : Type 0} (r : Option (Bor T)) (x : Option T) → option_copied r ≡ x → IsSome x → IsSome r
+looked-some None x e h = absurd (false≢true (ap is_some e ∙ h))
+looked-some (Some r) x e h = refl

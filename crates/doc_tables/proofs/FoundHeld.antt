@@ -1,5 +1,5 @@
 -- What is held is found by name.
-use Rattle.std.proofs.Common.{◌≡◌, inl, inr, ℕ, zero, suc, List, [], ◌∷◌, map, Some, refl, sym, ap, subst, ◌∙◌}
+use Rattle.std.proofs.Common.{◌≡◌, ℕ, List, map, Some, sym, ap, subst, ◌∙◌}
 use Rattle.std.specs.Prelude.{slice_get}
 use Rattle.std.specs.Option.{option_map}
 use Rattle.fc_base.specs.Graph.{IsIn}
@@ -13,13 +13,7 @@ use Rattle.doc_tables.specs.Held.{object_held, document_held, numbered_held, IsO
 use Rattle.doc_tables.specs.Numbered.{Numbered}
 use Rattle.doc_tables.specs.declared.tables.Tables.TheInside.{Inside}
 use Rattle.doc_tables.proofs.Finding.{find-map, find-at}
-use Rattle.doc_tables.proofs.HeldLemmas.{Named, Owned, row_held, rows-held, all_at, object-found}
-
--- what stands in a list stands at a place
-place-in : {A : Type 0} (xs : List A) (x : A) → IsIn x xs → (i : ℕ) × (slice_get xs i ≡ Some x)
-place-in [] x i = absurd i
-place-in (y ∷ ys) x (inl e) = (0, ap Some (sym e))
-place-in (y ∷ ys) x (inr i) = let m = place-in ys x i in (suc m.0, m.1)
+use Rattle.doc_tables.proofs.HeldLemmas.{Named, Owned, all_at, object-found, place-in, row_held, rows-held}
 
 -- the row of a property is found by its name
 row-found : (d : Document) (o : Owned) (r : Row) → IsObjectHeld o → IsIn r (rows d (object_held o)) → row_in (rows d (object_held o)) r.name ≡ Some r

@@ -1,10 +1,11 @@
 -- What is held is the document: its rows are the properties, and its slots are found by name.
-use Rattle.std.proofs.Common.{◌≡◌, ◌≢◌, ◌<◌, ℕ, zero, suc, List, [], ◌∷◌, ◌++◌, map, length, Option, Some, None, IsSome, is_some, slice_get, get_or, refl, sym, ap, subst, ◌∙◌, arith}
+use Rattle.std.proofs.Common.{◌≡◌, ◌≢◌, ◌<◌, ℕ, zero, suc, nat_eq, List, [], ◌∷◌, ◌++◌, map, length, position, Option, Some, None, IsSome, is_some, slice_get, inl, inr, refl, sym, ap, subst, ◌∙◌, arith}
+use Rattle.std.specs.Cmp.Lexicographic.{pointwise}
 use Rattle.std.specs.List.{flat_map, AllByRecursion}
+use Rattle.std.specs.Map.{keys_of, lookup}
 use Rattle.std.specs.Option.{option_and_then, option_map}
-use Rattle.std.proofs.lemmas.Bool.{false≢true}
 use Rattle.std.proofs.lemmas.List.{map-append}
-use Rattle.std.proofs.lemmas.Option.{slice_get-map, get_or_from_slice_get}
+use Rattle.fc_base.specs.Graph.{IsIn}
 use Rattle.fc_base.specs.declared.ids.SlotId.{SlotId}
 use Rattle.object_paths.specs.declared.slot_name.SlotName.TheVariants.{Plain}
 use Rattle.object_paths.specs.Slots.{Slot, same_text, same_slot_name}
@@ -13,15 +14,18 @@ use Rattle.property_types.specs.declared.prop_type.PropType.TheVariants as prop
 use Rattle.document_model.specs.Document.{Document, Object, object_named}
 use Rattle.document_model.specs.Slots.{Row, rule_of_content, rows_in_order, row_with, rows, row_in, row_of, rule_of, type_of, slot_of, slots}
 use Rattle.document_model.specs.TypedSlots.{property_slots}
+use Rattle.document_model.proofs.Members.{from_flat_map, from_map, IsIn-flat_map, IsIn-map}
 use Rattle.doc_tables.specs.declared.entry.ObjectEntry.{ObjectEntry}
 use Rattle.doc_tables.specs.declared.entry.PropertyEntry.{PropertyEntry}
+use Rattle.doc_tables.specs.declared.entry.SlotKey.{SlotKey}
 use Rattle.doc_tables.specs.declared.entry.SlotPlace.{SlotPlace}
 use Rattle.doc_tables.specs.declared.tables.Tables.TheInside.{Inside}
 use Rattle.doc_tables.specs.Accessors.{AreNumbersOf}
 use Rattle.doc_tables.specs.Entries.{IsEntryOf, numbers_in}
-use Rattle.doc_tables.specs.Held.{property_held, object_held, document_held, entry_at, slot_of_entry, slot_held, number_held, numbered_held, IsPropertyHeld, IsObjectHeld, IsHeld}
-use Rattle.doc_tables.specs.Numbered.{Numbered, name_at, slot_at}
-use Rattle.doc_tables.proofs.Finding.{find-map, find-at}
+use Rattle.doc_tables.specs.Held.{property_held, object_held, object_numbered, slots_numbered, slot_of_key, document_held, place_of_key, numbered_held, IsPropertyHeld, IsObjectHeld, IsHeld}
+use Rattle.doc_tables.specs.Numbered.{Numbered, at_number, name_at, slot_at}
+use Rattle.doc_tables.proofs.Finding.{find-map, find-at, lookup-at, position-at}
+use Rattle.doc_tables.proofs.TableLemmas.{at_number-map, some_of}
 
 -- a property with its name, and an object with its name
 abbrev pub Named : Type 0
@@ -78,29 +82,25 @@ pub record Stands (objects : List Owned) (p : SlotPlace) (o : Owned) (e : Named)
 abbrev pub slot_named : Owned → Named → Slot
 slot_named o e = record { object = o.0; name = Plain e.0 }
 
-module _ (objects : List Owned) (p : SlotPlace) (o : Owned) (e : Named) (stands : Stands objects p o e) where
-  pub entry-stands : entry_at objects p ≡ Some (o.0, e)
-  entry-stands = rw (stands.object, stands.property)
+-- what stands in a list stands at a place
+pub place-in : {A : Type 0} (xs : List A) (x : A) → IsIn x xs → (i : ℕ) × (slice_get xs i ≡ Some x)
+place-in [] x i = absurd i
+place-in (y ∷ ys) x (inl e) = (0, ap Some (sym e))
+place-in (y ∷ ys) x (inr i) = let m = place-in ys x i in (suc m.0, m.1)
 
-  pub slot-stands : slot_held objects p ≡ Some (slot_named o e)
-  slot-stands = ap (option_map slot_of_entry) entry-stands
+-- what stands at a place stands in the list
+pub in-at : {A : Type 0} (xs : List A) (i : ℕ) (x : A) → slice_get xs i ≡ Some x → IsIn x xs
+in-at [] i x h = absurd (cc)
+in-at (y ∷ ys) zero x h = inl (let same : y ≡ x = cc in sym same)
+in-at (y ∷ ys) (suc i) x h = inr (in-at ys i x h)
 
-  pub number-stands : number_held objects p ≡ Some e.1.slot
-  number-stands = ap (option_map (λ (x : List ℕ × Named). x.1.1.slot)) entry-stands
-
--- where an entry stands, there are an object and a property
-pub stands-from_entry : (objects : List Owned) (p : SlotPlace) (x : List ℕ × Named) → entry_at objects p ≡ Some x → (o : Owned) × Stands objects p o x.1 × (o.0 ≡ x.0)
-stands-from_entry objects p x h =
-    elim (slice_get objects p.object) as (λ r. slice_get objects p.object ≡ r → option_and_then (λ (o : Owned). option_map (λ (e : Named). (o.0, e)) (slice_get o.1.properties.entries p.property)) r ≡ Some x → (o : Owned) × Stands objects p o x.1 × (o.0 ≡ x.0)) [
-      | None ↦ λ a g. absurd (cc)
-      | Some o ↦ λ a g.
-          elim (slice_get o.1.properties.entries p.property) as (λ r. slice_get o.1.properties.entries p.property ≡ r → option_map (λ (e : Named). (o.0, e)) r ≡ Some x → (o : Owned) × Stands objects p o x.1 × (o.0 ≡ x.0)) [
-            | None ↦ λ b k. absurd (cc)
-            | Some e ↦ λ b k.
-                let whole : (o.0, e) ≡ x = cc in
-                (o, record { object = a; property = b ∙ ap Some (ap (λ (y : List ℕ × Named). y.1) whole) }, ap (λ (y : List ℕ × Named). y.0) whole)
-          ] refl g
-    ] refl h
+-- This object has the number and the name.
+pub record Owns (objects : List Owned) (n : ℕ) (name : List ℕ) : Type 0 where
+  pub place : ℕ
+  pub owner : Owned
+  pub stands : slice_get objects place ≡ Some owner
+  pub number : owner.1.number.0 ≡ n
+  pub name_is : owner.0 ≡ name
 
 module _ (t : Inside) (held : IsHeld t) where
   -- the object at a place is the first of its name
@@ -110,14 +110,11 @@ module _ (t : Inside) (held : IsHeld t) where
       ∙ ap (option_map object_held) (find-at (λ (x : Owned). x.0) t.objects.entries i o held.distinct at)
 
   module _ (p : SlotPlace) (o : Owned) (e : Named) (stands : Stands t.objects.entries p o e) where
-    pub place-stands : slice_get t.places.items e.1.slot.0 ≡ Some p
-    place-stands = held.there p e.1.slot (number-stands t.objects.entries p o e stands)
-
     pub slot_at-stands : slot_at (numbered_held t) e.1.slot.0 ≡ Some (slot_named o e)
     slot_at-stands =
-        ap (option_and_then (λ (x : Option Slot). x))
-        (slice_get-map (slot_held t.objects.entries) t.places.items e.1.slot.0 ∙ ap (option_map (slot_held t.objects.entries)) place-stands
-        ∙ ap Some (slot-stands t.objects.entries p o e stands))
+        held.slot_numbers.there e.1.slot.0 (slot_named o e)
+        (IsIn-flat_map slots_numbered t.objects.entries o (e.1.slot.0, slot_named o e) (in-at t.objects.entries p.object o stands.object)
+        (IsIn-map (λ (x : Named). (x.1.slot.0, slot_named o x)) o.1.properties.entries e (in-at o.1.properties.entries p.property e stands.property)))
 
     pub object-held : IsObjectHeld o
     object-held = all_at IsObjectHeld t.objects.entries p.object o held.objects stands.object
@@ -138,73 +135,170 @@ module _ (t : Inside) (held : IsHeld t) where
     pub type-stands : type_of (document_held t.objects.entries) (slot_named o e) ≡ Some e.1.prop
     type-stands = ap (option_and_then (λ (r : Row). r.prop)) row-stands
 
--- This property of this object stands at the place of a number.
+-- This property of this object has the number.
 pub record At (t : Inside) (n : ℕ) : Type 0 where
   pub place : SlotPlace
   pub owner : Owned
   pub entry : Named
-  pub placed : slice_get t.places.items n ≡ Some place
   pub stands : Stands t.objects.entries place owner entry
   pub number : entry.1.slot.0 ≡ n
   pub found : slot_at (numbered_held t) n ≡ Some (slot_named owner entry)
 
-at_place : (t : Inside) → IsHeld t → (n : ℕ) (p : SlotPlace) (x : List ℕ × Named) → slice_get t.places.items n ≡ Some p → entry_at t.objects.entries p ≡ Some x → At t n
-at_place t held n p x placed there =
-    let s = stands-from_entry t.objects.entries p x there in
-    let back : option_map (λ (id : SlotId). id.0) (number_held t.objects.entries p) ≡ Some n = held.back p n placed in
-    let own : number_held t.objects.entries p ≡ Some x.1.1.slot = number-stands t.objects.entries p s.0 x.1 s.1 in
-    let number : x.1.1.slot.0 ≡ n = cc (ap (option_map (λ (id : SlotId). id.0)) own) in
-    record {
-      place = p;
-      owner = s.0;
-      entry = x.1;
-      placed = placed;
-      stands = s.1;
-      number = number;
-      found = ap (slot_at (numbered_held t)) (sym number) ∙ slot_at-stands t held p s.0 x.1 s.1;
-    }
+module _ (t : Inside) (held : IsHeld t) where
+  -- a number in use has a property
+  pub at_number-held : (n : ℕ) → IsSome (slot_at (numbered_held t) n) → At t n
+  at_number-held n used =
+      let s = some_of (slot_at (numbered_held t) n) used in
+      let f = from_flat_map slots_numbered t.objects.entries (n, s.0) (held.slot_numbers.back n s.0 s.1) in
+      let o : Owned = f.0 in
+      let g = from_map (λ (x : Named). (x.1.slot.0, slot_named o x)) o.1.properties.entries (n, s.0) f.2 in
+      let e : Named = g.0 in
+      let i = place-in t.objects.entries o f.1 in
+      let j = place-in o.1.properties.entries e g.1 in
+      record {
+        place = record { object = i.0; property = j.0 };
+        owner = o;
+        entry = e;
+        stands = record { object = i.1; property = j.1 };
+        number = sym (ap (λ (p : ℕ × Slot). p.0) g.2);
+        found = s.1 ∙ ap (λ (p : ℕ × Slot). Some p.1) g.2;
+      }
 
--- a number in use has a property
-pub at_number-held : (t : Inside) → IsHeld t → (n : ℕ) → IsSome (slot_at (numbered_held t) n) → At t n
-at_number-held t held n used =
-    elim (slice_get t.places.items n) as (λ r. slice_get t.places.items n ≡ r → IsSome (option_and_then (λ (x : Option Slot). x) (option_map (slot_held t.objects.entries) r)) → At t n) [
-      | None ↦ λ a u. absurd (false≢true u)
-      | Some p ↦ λ a u.
-          elim (entry_at t.objects.entries p) as (λ r. entry_at t.objects.entries p ≡ r → IsSome (option_map slot_of_entry r) → At t n) [
-            | None ↦ λ b v. absurd (false≢true v)
-            | Some x ↦ λ b v. at_place t held n p x a b
-          ] refl u
-    ] refl (subst (λ (r : Option (Option Slot)). IsSome (option_and_then (λ (x : Option Slot). x) r)) (slice_get-map (slot_held t.objects.entries) t.places.items n) used)
+  -- and so has a number of an object an object
+  pub owns-held : (n : ℕ) (name : List ℕ) → name_at (numbered_held t) n ≡ Some name → Owns t.objects.entries n name
+  owns-held n name h =
+      let f = from_map object_numbered t.objects.entries (n, name) (held.object_numbers.back n name h) in
+      let o : Owned = f.0 in
+      let i = place-in t.objects.entries o f.1 in
+      record {
+        place = i.0;
+        owner = o;
+        stands = i.1;
+        number = sym (ap (λ (p : ℕ × List ℕ). p.0) f.2);
+        name_is = sym (ap (λ (p : ℕ × List ℕ). p.1) f.2);
+      }
 
--- what is read at a number: its place, the object there and the property
-pub record Reads (t : Inside) (n : ℕ) (o : Owned) (e : Named) : Type 0 where
-  pub place : SlotPlace
-  pub placed : place ≡ get_or t.places.items n place
-  pub object : Some o ≡ slice_get t.objects.entries place.object
-  pub property : Some e ≡ slice_get o.1.properties.entries place.property
+  -- the name of the number of an object
+  pub name_at-held : (i : ℕ) (o : Owned) → slice_get t.objects.entries i ≡ Some o → name_at (numbered_held t) o.1.number.0 ≡ Some o.0
+  name_at-held i o at = held.object_numbers.there o.1.number.0 o.0 (IsIn-map object_numbered t.objects.entries o (in-at t.objects.entries i o at))
 
--- what is read is what stands there
-pub reads-stands : (t : Inside) (held : IsHeld t) (n : ℕ) (o : Owned) (e : Named) → IsSome (slot_at (numbered_held t) n) → (r : Reads t n o e) → Stands t.objects.entries r.place o e × (slot_at (numbered_held t) n ≡ Some (slot_named o e)) × (e.1.slot.0 ≡ n)
-reads-stands t held n o e used r =
-    let a = at_number-held t held n used in
-    let same : r.place ≡ a.place = r.placed ∙ get_or_from_slice_get t.places.items n a.place r.place a.placed in
-    let stands : Stands t.objects.entries r.place o e = record { object = sym r.object; property = sym r.property } in
-    let owner : a.owner ≡ o = cc (a.stands.object, same) in
-    let entry : a.entry ≡ e = cc (a.stands.property, r.property, same, owner) in
-    (stands, a.found ∙ (λ j. Some (slot_named (owner j) (entry j))), ap (λ (x : Named). x.1.slot.0) (sym entry) ∙ a.number)
+  -- the object of a name is found by it
+  pub owner-looked : (n : ℕ) (name : List ℕ) (w : Owns t.objects.entries n name) → lookup (pointwise nat_eq name) t.objects.entries ≡ Some w.owner.1
+  owner-looked n name w =
+      subst (λ (k : List ℕ). lookup (pointwise nat_eq k) t.objects.entries ≡ Some w.owner.1) w.name_is
+      (lookup-at t.objects.entries w.place w.owner held.distinct w.stands)
 
-pub entry-read : (v : Numbered) (t : Inside) → IsHeld t → numbered_held t ≡ v → (n : ℕ) (o : Owned) (e : Named) → IsSome (slot_at v n) → Reads t n o e → IsEntryOf v n e.1
-entry-read v t held is n o e used r =
-    let s = reads-stands t held n o e (subst (λ (w : Numbered). IsSome (slot_at w n)) (sym is) used) r in
-    let d = document_held t.objects.entries in
-    subst (λ (w : Numbered). IsEntryOf w n e.1) is (record {
-      type = ap (option_and_then (type_of d)) s.1 ∙ type-stands t held r.place o e s.0;
-      rule = ap (option_and_then (rule_of d)) s.1 ∙ rule-stands t held r.place o e s.0;
-      references = (property-held t held r.place o e s.0).references;
-      owner =
-          ap (λ (x : Option Slot). is_some (option_and_then (λ (q : Slot). object_named d q.object) x)) s.1
-          ∙ ap is_some (object-found t held (r.place).object o s.0.object);
-    })
+  -- This property of this object has the number and the names of the key.
+  pub record KeyAt (n : ℕ) (key : SlotKey) : Type 0 where
+    pub at : At t n
+    pub object : key.object ≡ at.owner.0
+    pub property : key.property ≡ at.entry.0
+
+  pub key-at : (n : ℕ) (key : SlotKey) → at_number t.slot_keys.items n ≡ Some key → KeyAt n key
+  key-at n key h =
+      let slot : slot_at (numbered_held t) n ≡ Some (slot_of_key key) = at_number-map slot_of_key t.slot_keys.items n ∙ ap (option_map slot_of_key) h in
+      let a : At t n = at_number-held n (ap is_some slot) in
+      let same : slot_of_key key ≡ slot_named a.owner a.entry = cc (a.found, slot) in
+      record {
+        at = a;
+        object = ap (λ (q : Slot). q.object) same;
+        property = let plain : Plain key.property ≡ Plain a.entry.0 = ap (λ (q : Slot). q.name) same in cc;
+      }
+
+  module _ (n : ℕ) (key : SlotKey) (k : KeyAt n key) where
+    pub key-owner : lookup (pointwise nat_eq key.object) t.objects.entries ≡ Some k.at.owner.1
+    key-owner =
+        ap (λ (name : List ℕ). lookup (pointwise nat_eq name) t.objects.entries) k.object
+        ∙ lookup-at t.objects.entries (k.at.place).object k.at.owner held.distinct k.at.stands.object
+
+    pub key-entry : lookup (pointwise nat_eq key.property) k.at.owner.1.properties.entries ≡ Some k.at.entry.1
+    key-entry =
+        ap (λ (name : List ℕ). lookup (pointwise nat_eq name) k.at.owner.1.properties.entries) k.property
+        ∙ lookup-at k.at.owner.1.properties.entries (k.at.place).property k.at.entry
+        (object-held t held k.at.place k.at.owner k.at.entry k.at.stands).distinct k.at.stands.property
+
+    -- the place of a key in use
+    pub key-place : place_of_key t.objects.entries key ≡ Some k.at.place
+    key-place =
+        let o = k.at.owner in
+        let e = k.at.entry in
+        let es = t.objects.entries in
+        (λ j. place_of_key es (record { object = k.object j; property = k.property j }))
+        ∙ ap (option_and_then (λ i. option_and_then (λ (x : Owned). option_map (λ m. record { object = i; property = m }) (position (pointwise nat_eq e.0) (keys_of x.1.properties.entries))) (slice_get es i)))
+        (position-at es (k.at.place).object o held.distinct k.at.stands.object)
+        ∙ ap (option_and_then (λ (x : Owned). option_map (λ m. record { object = (k.at.place).object; property = m }) (position (pointwise nat_eq e.0) (keys_of x.1.properties.entries)))) k.at.stands.object
+        ∙ ap (option_map (λ m. record { object = (k.at.place).object; property = m }))
+        (position-at o.1.properties.entries (k.at.place).property e (object-held t held k.at.place o e k.at.stands).distinct k.at.stands.property)
+
+  pub entry-held : (n : ℕ) (a : At t n) → IsEntryOf (numbered_held t) n a.entry.1
+  entry-held n a =
+      let d = document_held t.objects.entries in
+      record {
+        type = ap (option_and_then (type_of d)) a.found ∙ type-stands t held a.place a.owner a.entry a.stands;
+        rule = ap (option_and_then (rule_of d)) a.found ∙ rule-stands t held a.place a.owner a.entry a.stands;
+        references = (property-held t held a.place a.owner a.entry a.stands).references;
+        owner =
+            ap (λ (x : Option Slot). is_some (option_and_then (λ (q : Slot). object_named d q.object) x)) a.found
+            ∙ ap is_some (object-found t held (a.place).object a.owner a.stands.object);
+      }
+
+-- what tables show of numbers
+module _ (v : Numbered) (t : Inside) (held : IsHeld t) (is : numbered_held t ≡ v) where
+  -- a number in use is one of a key in use
+  pub used-read : (n : ℕ) → is_some (at_number t.slot_keys.items n) ≡ is_some (slot_at v n)
+  used-read n = of (at_number t.slot_keys.items n) ∙ ap is_some (sym (at_number-map slot_of_key t.slot_keys.items n) ∙ ap (λ (w : Numbered). slot_at w n) is)
+    where
+      of : (x : Option SlotKey) → is_some x ≡ is_some (option_map slot_of_key x)
+      of None = refl
+      of (Some k) = refl
+
+  pub key-used : (n : ℕ) → IsSome (slot_at v n) → IsSome (at_number t.slot_keys.items n)
+  key-used n used = used-read n ∙ used
+
+  pub key-read : (n : ℕ) (key : SlotKey) → Some key ≡ at_number t.slot_keys.items n → Some (slot_of_key key) ≡ slot_at v n
+  key-read n key h = ap (option_map slot_of_key) h ∙ sym (at_number-map slot_of_key t.slot_keys.items n) ∙ ap (λ (w : Numbered). slot_at w n) is
+
+  pub name-used : (n : ℕ) → IsSome (name_at v n) → IsSome (at_number t.object_names.items n)
+  name-used n used = ap (λ (w : Numbered). is_some (name_at w n)) is ∙ used
+
+  pub name-read : (n : ℕ) (name : List ℕ) → Some name ≡ at_number t.object_names.items n → Some name ≡ name_at v n
+  name-read n name h = h ∙ ap (λ (w : Numbered). name_at w n) is
+
+  -- the object of a number in use is there
+  pub owner-named : (n : ℕ) (name : List ℕ) → Some name ≡ at_number t.object_names.items n → IsSome (lookup (pointwise nat_eq name) t.objects.entries)
+  owner-named n name h = ap is_some (owner-looked t held n name (owns-held t held n name (sym h)))
+
+  module _ (n : ℕ) (key : SlotKey) (h : Some key ≡ at_number t.slot_keys.items n) where
+    k : KeyAt t held n key
+    k = key-at t held n key (sym h)
+
+    -- the object of a key in use is there
+    pub owner-there : IsSome (lookup (pointwise nat_eq key.object) t.objects.entries)
+    owner-there = ap is_some (key-owner t held n key k)
+
+    module _ (object : ObjectEntry) (own : Some object ≡ lookup (pointwise nat_eq key.object) t.objects.entries) where
+      owner : object ≡ k.at.owner.1
+      owner = let both : Some object ≡ Some k.at.owner.1 = own ∙ key-owner t held n key k in cc
+
+      pub owner-read : name_at v object.number.0 ≡ option_map (λ (s : Slot). s.object) (slot_at v n)
+      owner-read =
+          subst (λ (w : Numbered). name_at w object.number.0 ≡ option_map (λ (s : Slot). s.object) (slot_at w n)) is
+          (ap (λ (x : ObjectEntry). name_at (numbered_held t) x.number.0) owner
+          ∙ name_at-held t held (k.at.place).object k.at.owner k.at.stands.object
+          ∙ sym (ap (option_map (λ (s : Slot). s.object)) k.at.found))
+
+      looked : lookup (pointwise nat_eq key.property) object.properties.entries ≡ Some k.at.entry.1
+      looked = ap (λ (x : ObjectEntry). lookup (pointwise nat_eq key.property) x.properties.entries) owner ∙ key-entry t held n key k
+
+      pub entry-there : IsSome (lookup (pointwise nat_eq key.property) object.properties.entries)
+      entry-there = ap is_some looked
+
+      pub entry-read : (entry : PropertyEntry) → Some entry ≡ lookup (pointwise nat_eq key.property) object.properties.entries → IsEntryOf v n entry
+      entry-read entry there =
+          let both : Some entry ≡ Some k.at.entry.1 = there ∙ looked in
+          let same : entry ≡ k.at.entry.1 = cc in
+          subst (λ (w : Numbered). IsEntryOf w n entry) is
+          (subst (λ (x : PropertyEntry). IsEntryOf (numbered_held t) n x) (sym same) (entry-held t held n k.at))
 
 -- the slots of an object
 abbrev pub slots_in : Owned → List Slot
@@ -260,34 +354,8 @@ numbers-held v t held is =
     subst (λ (w : Numbered). AreNumbersOf w (flat_map numbers_in t.objects.entries) (slots w.document)) is
     (numbers-from (numbered_held t) t.objects.entries (numbered-in t held) ∙ ap (map Some) (sym (slots-held t held)))
 
--- the name of the object at a place
-pub name_at-place : (t : Inside) (i : ℕ) (o : Owned) → slice_get t.objects.entries i ≡ Some o → name_at (numbered_held t) i ≡ Some o.0
-name_at-place t i o at =
-    ap (option_and_then (λ (x : Option (List ℕ)). x)) (slice_get-map (λ (x : Owned). Some x.0) t.objects.entries i ∙ ap (option_map (λ (x : Owned). Some x.0)) at)
-
-pub owner-read : (v : Numbered) (t : Inside) → IsHeld t → numbered_held t ≡ v → (n : ℕ) (o : Owned) (e : Named) → IsSome (slot_at v n) → (r : Reads t n o e) → name_at v (r.place).object ≡ option_map (λ (s : Slot). s.object) (slot_at v n)
-owner-read v t held is n o e used r =
-    let s = reads-stands t held n o e (subst (λ (w : Numbered). IsSome (slot_at w n)) (sym is) used) r in
-    subst (λ (w : Numbered). name_at w (r.place).object ≡ option_map (λ (x : Slot). x.object) (slot_at w n)) is
-    (name_at-place t (r.place).object o s.0.object ∙ sym (ap (option_map (λ (x : Slot). x.object)) s.1))
-
 -- below the length there is a member
 pub member_below : {A : Type 0} (xs : List A) (n : ℕ) → n < length xs → (x : A) × (slice_get xs n ≡ Some x)
 member_below [] n h = absurd (omega arith)
 member_below (x ∷ xs) zero h = (x, refl)
 member_below (x ∷ xs) (suc n) h = member_below xs n (omega arith)
-
-some_number : (x : Option (List ℕ × Named)) (n : ℕ) → option_map (λ (id : SlotId). id.0) (option_map (λ (e : List ℕ × Named). e.1.1.slot) x) ≡ Some n → IsSome (option_map slot_of_entry x)
-some_number None n h = absurd (cc)
-some_number (Some e) n h = refl
-
-used-held : (t : Inside) → IsHeld t → (n : ℕ) → n < length t.places.items → IsSome (slot_at (numbered_held t) n)
-used-held t held n below =
-    let m = member_below t.places.items n below in
-    ap (λ (x : Option (Option Slot)). is_some (option_and_then (λ (y : Option Slot). y) x))
-    (slice_get-map (slot_held t.objects.entries) t.places.items n ∙ ap (option_map (slot_held t.objects.entries)) m.1)
-    ∙ some_number (entry_at t.objects.entries m.0) n (held.back m.0 n m.1)
-
--- each number below the limit is in use
-pub used-read : (v : Numbered) (t : Inside) → IsHeld t → numbered_held t ≡ v → (n : ℕ) → n < length t.places.items → IsSome (slot_at v n)
-used-read v t held is n below = subst (λ (w : Numbered). IsSome (slot_at w n)) is (used-held t held n below)

@@ -1,3 +1,4 @@
+pub mod TableLemmas
 pub mod NumberLemmas
 pub mod OrderLemmas
 pub mod ReadingLemmas
@@ -19,3 +20,4 @@ pub mod ChangeLists
 pub mod ChangeLemmas
 pub mod ChangeHeld
 pub mod CopyLemmas
+pub mod AddedLemmas

@@ -1,5 +1,9 @@
 -- The dependency lists so far, with one more.
-use Rattle.std.proofs.Common.{◌≡◌, ◌+◌, ◌<◌, ℕ, zero, suc, List, [], ◌∷◌, ◌++◌, map, length, Option, Some, slice_get, unwrap_or, refl, ap, subst, ◌∙◌, arith, below_more}
+use Rattle.std.proofs.Common.{◌≡◌, ◌+◌, ◌<◌, ℕ, zero, suc, false, List, [], ◌∷◌, ◌++◌, map, length, Option, Some, None, is_some, slice_get, unwrap_or, refl, sym, ap, subst, ◌∙◌, arith, below_more}
+use Rattle.std.specs.Option.{option_map_or}
+use Rattle.std.proofs.lemmas.Bool.{false≢true}
+use Rattle.object_paths.specs.Slots.{Slot}
+use Rattle.document_model.specs.Dependencies.{deps}
 use Rattle.doc_tables.specs.Accessors.{deps_at}
 use Rattle.doc_tables.specs.DependencyLists.{list_at}
 use Rattle.doc_tables.specs.Numbered.{Numbered, slot_at}
@@ -22,3 +26,11 @@ lists-more t lists one k count below here =
     (λ n h. let within : n < length lists = omega arith in ap (λ (x : Option (List ℕ)). map (slot_at t) (unwrap_or x [])) (slice_get-left lists (one ∷ []) n within) ∙ below n h)
     (subst (λ (m : ℕ). map (slot_at t) (list_at (lists ++ one ∷ []) m) ≡ map Some (deps_at t k)) count
     (ap (λ (x : Option (List ℕ)). map (slot_at t) (unwrap_or x [])) (slice_get-seam lists one []) ∙ here))
+
+-- a number that is not in use depends on nothing
+pub none-depend : (t : Numbered) (n : ℕ) → is_some (slot_at t n) ≡ false → deps_at t n ≡ []
+none-depend t n h = of (slot_at t n) h
+  where
+    of : (x : Option Slot) → is_some x ≡ false → option_map_or (deps t.document) x [] ≡ []
+    of None e = refl
+    of (Some s) e = absurd (false≢true (sym e))

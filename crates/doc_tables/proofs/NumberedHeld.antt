@@ -1,10 +1,9 @@
 -- In what is held numbers in use and slots are one to one, and so are numbers and objects.
-use Rattle.std.proofs.Common.{◌≡◌, ℕ, zero, suc, Bool, true, false, List, [], ◌∷◌, map, Option, Some, None, IsTrue, is_some, slice_get, position, refl, sym, ap, subst, ◌∙◌, inl, inr}
+use Rattle.std.proofs.Common.{◌≡◌, ℕ, Bool, true, false, List, [], Option, Some, None, IsTrue, is_some, slice_get, position, refl, sym, ap, subst, ◌∙◌}
 use Rattle.std.specs.Prelude.{◌↔◌}
 use Rattle.std.specs.List.{find, flat_map}
 use Rattle.std.specs.Option.{option_and_then, option_map, option_map_or}
 use Rattle.std.proofs.lemmas.Bool.{false≢true}
-use Rattle.std.proofs.lemmas.Option.{slice_get-map}
 use Rattle.std.proofs.lemmas.List.Quantifiers.{position-Some}
 use Rattle.fc_base.specs.Graph.{IsIn}
 use Rattle.object_paths.specs.declared.slot_name.SlotName.{SlotName}
@@ -16,19 +15,8 @@ use Rattle.document_model.proofs.Members.{from_map, from_flat_map, IsIn-map, IsI
 use Rattle.doc_tables.specs.declared.tables.Tables.TheInside.{Inside}
 use Rattle.doc_tables.specs.Held.{object_held, document_held, numbered_held, IsHeld}
 use Rattle.doc_tables.specs.Numbered.{Numbered, IsNumbered, at_number, slot_at, name_at, number_of, number_of_object}
-use Rattle.doc_tables.proofs.Finding.{find-map, find-place, find-passes, find-some, same-place, same_text-refl, same_text-told}
-use Rattle.doc_tables.proofs.HeldLemmas.{At, Named, Owned, at_number-held, member_below, name_at-place, object-found, object-held, slot_named, slots_in, slots-held, slot_at-stands}
-use Rattle.doc_tables.proofs.ResolveLemmas.{find-position}
-
-member-at : {A : Type 0} (xs : List A) (x : A) → IsIn x xs → (i : ℕ) × (slice_get xs i ≡ Some x)
-member-at [] x i = absurd i
-member-at (y ∷ ys) x (inl e) = (0, ap Some (sym e))
-member-at (y ∷ ys) x (inr i) = let r = member-at ys x i in (suc r.0, r.1)
-
-in-at : {A : Type 0} (xs : List A) (i : ℕ) (x : A) → slice_get xs i ≡ Some x → IsIn x xs
-in-at [] i x h = absurd (cc)
-in-at (y ∷ ys) zero x h = inl (cc)
-in-at (y ∷ ys) (suc i) x h = inr (in-at ys i x h)
+use Rattle.doc_tables.proofs.Finding.{find-map, find-place, find-passes, find-position, find-some, same-place, same_text-refl, same_text-told}
+use Rattle.doc_tables.proofs.HeldLemmas.{At, Named, Owned, Owns, at_number-held, in-at, member_below, name_at-held, object-found, object-held, owns-held, place-in, slot_named, slots_in, slots-held, slot_at-stands}
 
 at-number : {A : Type 0} (things : List (Option A)) (n : ℕ) (a : A) → at_number things n ≡ Some a → slice_get things n ≡ Some (Some a)
 at-number {A} things n a h =
@@ -92,21 +80,13 @@ module _ (t : Inside) (held : IsHeld t) where
       let entry : a.entry ≡ b.entry = cc (a.stands.property, there, properties) in
       sym b.number ∙ ap (λ (e : Named). e.1.slot.0) (sym entry) ∙ a.number
 
-  name-place : (n : ℕ) (name : List ℕ) → name_at (numbered_held t) n ≡ Some name → (o : Owned) × (slice_get t.objects.entries n ≡ Some o) × (o.0 ≡ name)
-  name-place n name h =
-      let at : option_map (λ (o : Owned). Some o.0) (slice_get t.objects.entries n) ≡ Some (Some name) =
-      sym (slice_get-map (λ (o : Owned). Some o.0) t.objects.entries n) ∙ at-number (map (λ (o : Owned). Some o.0) t.objects.entries) n name h
-      in
-      elim (slice_get t.objects.entries n) as (λ r. slice_get t.objects.entries n ≡ r → option_map (λ (o : Owned). Some o.0) r ≡ Some (Some name) → (o : Owned) × (slice_get t.objects.entries n ≡ Some o) × (o.0 ≡ name)) [
-        | None ↦ λ e g. absurd (cc)
-        | Some o ↦ λ e g. (o, e, cc)
-      ] refl at
-
   name-once : (n m : ℕ) (name : List ℕ) → name_at (numbered_held t) n ≡ Some name → name_at (numbered_held t) m ≡ Some name → m ≡ n
   name-once n m name h k =
-      let a = name-place n name h in
-      let b = name-place m name k in
-      same-place (λ (x : Owned). x.0) t.objects.entries m n b.0 a.0 held.distinct b.1 a.1 (b.2 ∙ sym a.2)
+      let a : Owns t.objects.entries n name = owns-held t held n name h in
+      let b : Owns t.objects.entries m name = owns-held t held m name k in
+      let place : a.place ≡ b.place = same-place (λ (x : Owned). x.0) t.objects.entries a.place b.place a.owner b.owner held.distinct a.stands b.stands (a.name_is ∙ sym b.name_is) in
+      let owner : a.owner ≡ b.owner = cc (a.stands, b.stands, place) in
+      sym b.number ∙ ap (λ (o : Owned). o.1.number.0) (sym owner) ∙ a.number
 
   text-exact : (a b : List ℕ) → IsTrue (same_text a b) ↔ (a ≡ b)
   text-exact a b = (same_text-told a b, λ e. subst (λ (c : List ℕ). same_text a c ≡ true) e (same_text-refl a))
@@ -124,8 +104,8 @@ module _ (t : Inside) (held : IsHeld t) where
         let owner : Owned = o.0 in
         let e = from_map (slot_named owner) owner.1.properties.entries s o.2 in
         let entry : Named = e.0 in
-        let x = member-at t.objects.entries owner o.1 in
-        let y = member-at owner.1.properties.entries entry e.1 in
+        let x = place-in t.objects.entries owner o.1 in
+        let y = place-in owner.1.properties.entries entry e.1 in
         let at : slot_at (numbered_held t) entry.1.slot.0 ≡ Some s =
         slot_at-stands t held (record { object = x.0; property = y.0 }) owner entry (record { object = x.1; property = y.1 }) ∙ ap Some (sym e.2)
         in
@@ -152,8 +132,8 @@ module _ (t : Inside) (held : IsHeld t) where
           | None ↦ λ e g. absurd (false≢true g)
           | Some o ↦ λ e g.
               let i = find-place test t.objects.entries o e in
-              let at : name_at (numbered_held t) i.0 ≡ Some name = name_at-place t i.0 o i.1 ∙ ap Some (same_text-told o.0 name (find-passes test t.objects.entries o e)) in
-              ap is_some ((name-iff i.0 name).0 at)
+              let at : name_at (numbered_held t) o.1.number.0 ≡ Some name = name_at-held t held i.0 o i.1 ∙ ap Some (same_text-told o.0 name (find-passes test t.objects.entries o e)) in
+              ap is_some ((name-iff o.1.number.0 name).0 at)
         ] refl (subst (λ (q : Option Object). IsTrue (is_some q)) (find-map object_held (λ q. same_text q.name name) t.objects.entries) h)
 
     numbered-object : (name : List ℕ) → IsTrue (is_some (number_of_object (numbered_held t) name)) → IsTrue (is_some (object_named (document_held t.objects.entries) name))
@@ -161,8 +141,8 @@ module _ (t : Inside) (held : IsHeld t) where
         elim (number_of_object (numbered_held t) name) as (λ r. number_of_object (numbered_held t) name ≡ r → IsTrue (is_some r) → IsTrue (is_some (object_named (document_held t.objects.entries) name))) [
           | None ↦ λ e g. absurd (false≢true g)
           | Some n ↦ λ e g.
-              let o = name-place n name ((name-iff n name).1 e) in
-              subst (λ (m : List ℕ). IsTrue (is_some (object_named (document_held t.objects.entries) m))) o.2 (ap is_some (object-found t held n o.0 o.1))
+              let o : Owns t.objects.entries n name = owns-held t held n name ((name-iff n name).1 e) in
+              subst (λ (m : List ℕ). IsTrue (is_some (object_named (document_held t.objects.entries) m))) o.name_is (ap is_some (object-found t held o.place o.owner o.stands))
         ] refl h
 
     numbered-held : IsNumbered (numbered_held t)

@@ -1,11 +1,9 @@
 -- The entry of an object has the numbers of its slots, however the object was found.
-use Rattle.std.proofs.Common.{◌≡◌, ℕ, Bool, true, false, cond, nat_eq, nat_lt, List, [], ◌∷◌, length, Option, Some, None, slice_get, position, refl, sym, ap, subst, ◌∙◌, arith}
+use Rattle.std.proofs.Common.{◌≡◌, ℕ, Bool, false, nat_eq, List, [], ◌∷◌, Option, Some, None, slice_get, position, refl, sym, ap, subst, ◌∙◌}
 use Rattle.std.specs.Cmp.Lexicographic.{pointwise}
-use Rattle.std.specs.List.{find, position_or_len}
+use Rattle.std.specs.List.{find}
 use Rattle.std.specs.Map.{lookup}
 use Rattle.std.specs.Option.{option_and_then, option_map}
-use Rattle.std.proofs.lemmas.List.Folds.{find_at}
-use Rattle.std.proofs.lemmas.Option.{slice_get-map, slice_get_past}
 use Rattle.fc_base.specs.declared.ids.SlotId.{SlotId}
 use Rattle.object_paths.specs.declared.path.Owner.TheVariants.{Here, ByName, ByLabel}
 use Rattle.object_paths.specs.declared.path.Path.{Path}
@@ -21,22 +19,13 @@ use Rattle.doc_tables.specs.declared.tables.Tables.TheInside.{Inside}
 use Rattle.doc_tables.specs.Accessors.{IsNumberOf}
 use Rattle.doc_tables.specs.Entries.{number_in, IsObjectEntry, IsEntryFor}
 use Rattle.doc_tables.specs.Held.{object_held, document_held, numbered_held, IsObjectHeld, IsHeld}
-use Rattle.doc_tables.specs.Numbered.{Numbered, object_at, slot_at}
-use Rattle.doc_tables.proofs.Finding.{find-map, find-place, find-same, lookup-find, same_text-sym}
-use Rattle.doc_tables.proofs.HeldLemmas.{Named, Owned, row_held, rows-held, slot_named, slot_at-stands, object-found, all_at}
+use Rattle.doc_tables.specs.Numbered.{Numbered, at_number, object_at, slot_at}
+use Rattle.doc_tables.proofs.Finding.{find-map, find-place, find-position, find-same, lookup-find, same_text-sym}
+use Rattle.doc_tables.proofs.HeldLemmas.{Named, Owned, Owns, name_at-held, name-read, owner-looked, owns-held, row_held, rows-held, slot_named, slot_at-stands, object-found, all_at}
 
 find-never : {A : Type 0} (xs : List A) → find (λ x. false) xs ≡ None
 find-never [] = refl
 find-never (x ∷ xs) = find-never xs
-
--- what is found by a place is what is found
-pub find-position : {A : Type 0} (p : A → Bool) (xs : List A) → find p xs ≡ option_and_then (slice_get xs) (position p xs)
-find-position p xs =
-    find_at p xs
-    ∙ (elim (nat_lt (position_or_len p xs) (length xs)) as (λ b. nat_lt (position_or_len p xs) (length xs) ≡ b → slice_get xs (position_or_len p xs) ≡ option_and_then (slice_get xs) (cond b (Some (position_or_len p xs)) None)) [
-      | true ↦ λ e. refl
-      | false ↦ λ e. slice_get_past xs (position_or_len p xs) (grind (arith, e))
-    ] refl)
 
 module _ (t : Inside) (held : IsHeld t) where
   d : Document
@@ -103,15 +92,11 @@ module _ (t : Inside) (held : IsHeld t) where
       (subst (λ (q : Option Object). IsEntryFor (numbered_held t) q (option_map (λ (o : Owned). o.1) (find test es))) (sym object)
       (entry-found (find test es) (λ o h. find-place test es o h)))
 
-  -- the object of a number in use is the one at its place
-  pub object_at-place : (i : ℕ) (o : Owned) → slice_get t.objects.entries i ≡ Some o → object_at (numbered_held t) i ≡ Some (object_held o)
+  -- the object of the number of an entry is that entry's
+  pub object_at-place : (i : ℕ) (o : Owned) → slice_get t.objects.entries i ≡ Some o → object_at (numbered_held t) o.1.number.0 ≡ Some (object_held o)
   object_at-place i o at =
-      ap (λ (x : Option (Option (List ℕ))). option_and_then (object_named (document_held t.objects.entries)) (option_and_then (λ (y : Option (List ℕ)). y) x))
-      (slice_get-map (λ (x : Owned). Some x.0) t.objects.entries i ∙ ap (option_map (λ (x : Owned). Some x.0)) at)
+      ap (option_and_then (object_named (document_held t.objects.entries))) (name_at-held t held i o at)
       ∙ object-found t held i o at
-
-  pub entry-here : (i : ℕ) (o : Owned) → slice_get t.objects.entries i ≡ Some o → IsEntryFor (numbered_held t) (object_at (numbered_held t) i) (Some o.1)
-  entry-here i o at = subst (λ (q : Option Object). IsEntryFor (numbered_held t) q (Some o.1)) (sym (object_at-place i o at)) (entry-at i o at)
 
 -- the slot that a name spells at an object that was found
 pub spelled-found : (t : Numbered) (found : Option Object) (entry : Option ObjectEntry) (name : SlotName) → IsEntryFor t found entry → IsNumberOf t (option_and_then (λ (e : ObjectEntry). number_in e name) entry) (option_and_then (λ (o : Object). spelled_slot t.document o o.kind name) found)
@@ -157,5 +142,23 @@ module _ (v : Numbered) (t : Inside) (held : IsHeld t) (is : numbered_held t ≡
       (sym (h ∙ ap (λ (p : Option ℕ). option_map (λ (o : Owned). o.1) (option_and_then (slice_get t.objects.entries) p)) at))
       (subst (λ (w : Numbered). IsEntryFor w (object_labelled w.document label) (option_map (λ (o : Owned). o.1) (option_and_then (slice_get t.objects.entries) (position (λ (o : Owned). same_text o.1.label label) t.objects.entries)))) is (entry-labelled t held label))
 
-  pub here-read : (i : ℕ) (o : Owned) → Some o ≡ slice_get t.objects.entries i → IsEntryFor v (object_at v i) (Some o.1)
-  here-read i o at = subst (λ (w : Numbered). IsEntryFor w (object_at w i) (Some o.1)) is (entry-here t held i o (sym at))
+  pub here-read : (n : ℕ) (name : List ℕ) (e : ObjectEntry) → Some name ≡ at_number t.object_names.items n → Some e ≡ lookup (pointwise nat_eq name) t.objects.entries → IsEntryFor v (object_at v n) (Some e)
+  here-read n name e h own =
+      subst (λ (q : Option Object). IsEntryFor v q (Some e)) (ap (option_and_then (object_named v.document)) (name-read v t held is n name h))
+      (named-read name (Some e) own)
+
+  -- the slot of a name of the object of a number
+  pub slot-read : (n : ℕ) (name : List ℕ) (e : ObjectEntry) → Some name ≡ at_number t.object_names.items n → Some e ≡ lookup (pointwise nat_eq name) t.objects.entries → (k : SlotName) (id : Option SlotId) → id ≡ number_in e k
+      → IsNumberOf v id (option_and_then (λ (o : Object). slot_in v.document o k) (object_at v n))
+  slot-read n name e h own k id told =
+      let d = document_held t.objects.entries in
+      let w : Owns t.objects.entries n name = owns-held t held n name (sym h) in
+      let both : Some e ≡ Some w.owner.1 = own ∙ owner-looked t held n name w in
+      let same : e ≡ w.owner.1 = cc in
+      let found : object_at (numbered_held t) n ≡ Some (object_held w.owner) =
+      ap (option_and_then (object_named d)) (sym h ∙ ap Some (sym w.name_is)) ∙ object-found t held w.place w.owner w.stands
+      in
+      subst (λ (x : Numbered). IsNumberOf x id (option_and_then (λ (o : Object). slot_in x.document o k) (object_at x n))) is
+      (subst (λ (q : Option Object). IsNumberOf (numbered_held t) id (option_and_then (λ (o : Object). slot_in d o k) q)) (sym found)
+      (subst (λ (x : Option SlotId). IsNumberOf (numbered_held t) x (slot_in d (object_held w.owner) k)) (sym (told ∙ ap (λ (y : ObjectEntry). number_in y k) same))
+      (entry-at t held w.place w.owner w.stands k)))

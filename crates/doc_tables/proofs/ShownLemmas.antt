@@ -1,8 +1,8 @@
 -- How a write into the maps changes what is shown of them.
-use Rattle.std.proofs.Common.{◌≡◌, ℕ, zero, suc, nat_eq, List, [], ◌∷◌, ◌++◌, map, Option, Some, None, IfSome, slice_get, refl, sym, ap, subst, ◌∙◌}
+use Rattle.std.proofs.Common.{◌≡◌, ℕ, zero, suc, nat_eq, List, [], ◌∷◌, map, Option, Some, None, IfSome, slice_get, refl, sym, ap, subst, ◌∙◌}
 use Rattle.std.specs.Cmp.Lexicographic.{pointwise}
 use Rattle.std.specs.Map.{values_of}
-use Rattle.indexmap.specs.IndexMap.{get, set_value_at, insert_entry}
+use Rattle.indexmap.specs.IndexMap.{get, set_value_at}
 use Rattle.document_model.specs.declared.content.Content.{Content}
 use Rattle.doc_tables.specs.declared.entry.ObjectEntry.{ObjectEntry}
 use Rattle.doc_tables.specs.declared.entry.PropertyEntry.{PropertyEntry}

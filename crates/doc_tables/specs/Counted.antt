@@ -27,6 +27,10 @@ nodes_of_properties properties = sum_by (λ (e : List ℕ × PropertyEntry). nod
 abbrev pub nodes_of_objects : List (List ℕ × ObjectEntry) → ℕ
 nodes_of_objects objects = sum_by (λ (o : List ℕ × ObjectEntry). nodes_of_properties o.1.properties.entries) objects
 
+-- the properties of objects
+abbrev pub properties_of_objects : List (List ℕ × ObjectEntry) → ℕ
+properties_of_objects objects = sum_by (λ (o : List ℕ × ObjectEntry). length o.1.properties.entries) objects
+
 -- how many references of an object's expression name a slot
 abbrev pub reached_count : Numbered → ℕ → List Reference → ℕ
 reached_count t object all = sum_by (λ r. option_len (reached_by t object r)) all

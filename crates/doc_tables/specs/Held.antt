@@ -1,10 +1,10 @@
 -- The document that tables hold, and how they hold it.
-use Rattle.std.specs.Prelude.{◌≡◌, ◌≢◌, ◌^◌, ◌<◌, ℕ, List, [], ◌∷◌, map, length, sum_by, slice_get, nat_eq, Option, Some}
+use Rattle.std.specs.Prelude.{◌≢◌, ◌^◌, ◌<◌, ℕ, List, [], ◌∷◌, map, length, sum_by, slice_get, nat_eq, position, Option}
 use Rattle.std.specs.Cmp.Lexicographic.{pointwise}
-use Rattle.std.specs.List.{AllByRecursion}
+use Rattle.std.specs.List.{flat_map, AllByRecursion}
+use Rattle.std.specs.Map.{keys_of}
 use Rattle.std.specs.Option.{option_and_then, option_map}
 use Rattle.indexmap.specs.IndexMap.{IsUnique}
-use Rattle.fc_base.specs.declared.ids.SlotId.{SlotId}
 use Rattle.object_paths.specs.declared.slot_name.SlotName.TheVariants.{Plain}
 use Rattle.object_paths.specs.Slots.{Slot}
 use Rattle.property_types.specs.declared.prop_type.PropType.TheVariants.{Placement}
@@ -13,8 +13,10 @@ use Rattle.document_model.specs.Document.{Document, Object, Property}
 use Rattle.document_model.specs.Edited.{new_object, new_property}
 use Rattle.doc_tables.specs.Entries.{HasFewReferences}
 use Rattle.doc_tables.specs.Numbered.{Numbered}
+use Rattle.doc_tables.specs.Table.{HasRoom, IsTable}
 use Rattle.doc_tables.specs.declared.entry.ObjectEntry.{ObjectEntry}
 use Rattle.doc_tables.specs.declared.entry.PropertyEntry.{PropertyEntry}
+use Rattle.doc_tables.specs.declared.entry.SlotKey.{SlotKey}
 use Rattle.doc_tables.specs.declared.entry.SlotPlace.{SlotPlace}
 use Rattle.doc_tables.specs.declared.tables.Tables.TheInside.{Inside}
 
@@ -36,24 +38,36 @@ entry_at objects p =
     option_and_then (λ (o : List ℕ × ObjectEntry). option_map (λ (e : List ℕ × PropertyEntry). (o.0, e)) (slice_get o.1.properties.entries p.property))
     (slice_get objects p.object)
 
--- the slot of a property with the name of its object
-abbrev pub slot_of_entry : List ℕ × (List ℕ × PropertyEntry) → Slot
-slot_of_entry e = record { object = e.0; name = Plain e.1.0 }
+-- the place of the property of a key
+abbrev pub place_of_key : List (List ℕ × ObjectEntry) → SlotKey → Option SlotPlace
+place_of_key objects key =
+    option_and_then (λ i.
+    option_and_then (λ (o : List ℕ × ObjectEntry). option_map (λ j. record { object = i; property = j }) (position (pointwise nat_eq key.property) (keys_of o.1.properties.entries)))
+    (slice_get objects i))
+    (position (pointwise nat_eq key.object) (keys_of objects))
 
--- the slot at a place
-abbrev pub slot_held : List (List ℕ × ObjectEntry) → SlotPlace → Option Slot
-slot_held objects p = option_map slot_of_entry (entry_at objects p)
+-- the slot of a key
+abbrev pub slot_of_key : SlotKey → Slot
+slot_of_key k = record { object = k.object; name = Plain k.property }
 
--- the number of the slot at a place
-abbrev pub number_held : List (List ℕ × ObjectEntry) → SlotPlace → Option SlotId
-number_held objects p = option_map (λ (e : List ℕ × (List ℕ × PropertyEntry)). e.1.1.slot) (entry_at objects p)
+-- the number and the name of an object
+abbrev pub object_numbered : List ℕ × ObjectEntry → ℕ × List ℕ
+object_numbered o = (o.1.number.0, o.0)
+
+-- the numbers and the slots of the properties of an object
+abbrev pub slots_numbered : List ℕ × ObjectEntry → List (ℕ × Slot)
+slots_numbered o = map (λ (e : List ℕ × PropertyEntry). (e.1.slot.0, record { object = o.0; name = Plain e.0 })) o.1.properties.entries
+
+-- the slots of keys
+abbrev pub slots_of_keys : List (Option SlotKey) → List (Option Slot)
+slots_of_keys keys = map (option_map slot_of_key) keys
 
 -- what tables stand for
 abbrev pub numbered_held : Inside → Numbered
 numbered_held t = record {
   document = document_held t.objects.entries;
-  objects = map (λ (o : List ℕ × ObjectEntry). Some o.0) t.objects.entries;
-  slots = map (slot_held t.objects.entries) t.places.items;
+  objects = t.object_names.items;
+  slots = slots_of_keys t.slot_keys.items;
 }
 
 -- a property of one slot
@@ -66,12 +80,13 @@ pub record IsObjectHeld (o : List ℕ × ObjectEntry) : Type 0 where
   pub distinct : IsUnique (pointwise nat_eq) o.1.properties
   pub properties : AllByRecursion IsPropertyHeld o.1.properties.entries
 
--- Objects have distinct names, and the places of the slots stand by their numbers.
+-- Objects have distinct names, and the numbers in use are those of the entries.
 pub record IsHeld (t : Inside) : Type 0 where
   pub distinct : IsUnique (pointwise nat_eq) t.objects
   pub objects : AllByRecursion IsObjectHeld t.objects.entries
-  pub there : (p : SlotPlace) (n : SlotId) → number_held t.objects.entries p ≡ Some n → slice_get t.places.items n.0 ≡ Some p
-  pub back : (p : SlotPlace) (n : ℕ) → slice_get t.places.items n ≡ Some p → option_map (λ (id : SlotId). id.0) (number_held t.objects.entries p) ≡ Some n
-  pub all : sum_by (λ (o : List ℕ × ObjectEntry). length o.1.properties.entries) t.objects.entries ≡ length t.places.items
   pub few_objects : length t.objects.entries < 2 ^ 32
-  pub few_slots : length t.places.items < 2 ^ 32
+  pub few_slots : sum_by (λ (o : List ℕ × ObjectEntry). length o.1.properties.entries) t.objects.entries < 2 ^ 32
+  pub object_numbers : IsTable t.object_names.items (map object_numbered t.objects.entries)
+  pub slot_numbers : IsTable (slots_of_keys t.slot_keys.items) (flat_map slots_numbered t.objects.entries)
+  pub object_room : HasRoom t.object_names.items t.free_object
+  pub slot_room : HasRoom (slots_of_keys t.slot_keys.items) t.free_slot

@@ -4,6 +4,7 @@ pub mod DependencyLists
 pub mod Primitives
 pub mod VarSets
 pub mod FindsAll
+pub mod Table
 pub mod Held
 pub mod Entries
 pub mod Counted

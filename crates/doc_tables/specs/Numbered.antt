@@ -44,3 +44,13 @@ pub record IsNumbered (t : Numbered) : Type 0 where
   pub all_slots : (s : Slot) → IsIn s (slots t.document) ↔ IsTrue (is_some (number_of t s))
   pub object_numbers : (n : ℕ) (name : List ℕ) → (name_at t n ≡ Some name) ↔ (number_of_object t name ≡ Some n)
   pub all_objects : (name : List ℕ) → IsTrue (is_some (object_named t.document name)) ↔ IsTrue (is_some (number_of_object t name))
+
+-- What stands before and after keeps its number; which number a new one gets is nobody's business.
+pub record Keeps (before after : Numbered) : Type 0 where
+  pub objects : (n : ℕ) (name : List ℕ) → name_at before n ≡ Some name → IsTrue (is_some (object_named after.document name)) → name_at after n ≡ Some name
+  pub slots : (n : ℕ) (s : Slot) → slot_at before n ≡ Some s → IsIn s (slots after.document) → slot_at after n ≡ Some s
+
+-- The document is this one now, and what stays in it keeps its number.
+pub record LeadsTo (before after : Numbered) (d : Document) : Type 0 where
+  pub document : after.document ≡ d
+  pub numbers : Keeps before after

@@ -1,11 +1,10 @@
-ghost use Rattle.std.specs.Prelude.{◌≡◌, ℕ, ◌<◌, length, min, slice_index_or, IsSome, Some};
+ghost use Rattle.std.specs.Prelude.{◌≡◌, length, min, slice_get, IsSome};
 ghost use Rattle.std.specs.Option.{option_map_or};
 ghost use Rattle.expr_tree.specs.References.{references};
 ghost use Rattle.document_model.specs.Counts.{dependencies_of_document, nodes_of_document};
-ghost use Rattle.document_model.specs.Document.{Object};
 ghost use Rattle.document_model.specs.Slots.{slots};
-ghost use Rattle.doc_tables.specs.Counted.{dependencies_of_object, nodes_of_content, nodes_of_objects, nodes_of_properties, reached_count, reached_of_content, reached_of_properties};
-ghost use Rattle.doc_tables.specs.Numbered.{name_at, object_at};
+ghost use Rattle.doc_tables.specs.Counted.{dependencies_of_object, nodes_of_content, nodes_of_objects, nodes_of_properties, properties_of_objects, reached_count, reached_of_content, reached_of_properties};
+ghost use Rattle.doc_tables.specs.Numbered.{name_at};
 
 use crate::entry::{ObjectEntry, PropertyEntry};
 use crate::tables::Tables;
@@ -46,6 +45,17 @@ fn nodes_of_objects(objects: &IndexMap<Name, ObjectEntry>) -> u32
     count
 }
 
+/// The properties of objects, at most `u64::MAX`.
+fn properties_of_objects(objects: &IndexMap<Name, ObjectEntry>) -> u64
+    ensures { result ≡ min (properties_of_objects objects.now.entries) u64.MAX }
+{
+    let mut count: u64 = 0;
+    for (_, object) in objects {
+        count = count.saturating_add(object.properties.len() as u64);
+    }
+    count
+}
+
 impl Tables {
     /// The number of objects.
     pub fn object_count(&self) -> u32
@@ -54,11 +64,11 @@ impl Tables {
         self.objects.len() as u32
     }
 
-    /// The number of slots.
+    /// The number of slots. The objects are visited.
     pub fn slot_count(&self) -> u32
         ensures { result ≡ length (slots self.now.document) }
     {
-        self.places.len() as u32
+        properties_of_objects(&self.objects) as u32
     }
 
     /// The number of nodes of all expressions; `u32::MAX` where there are more. Each node is visited.
@@ -139,22 +149,14 @@ impl Tables {
         count
     }
 
-    /// The dependencies of the slots of an object, at most `u64::MAX`.
-    fn dependencies_of_object(&self, object: ObjectId) -> u64
-        requires { IsSome (name_at self.now object.0) }
-        ensures { result ≡ min (option_map_or (dependencies_of_object self.now.document) (object_at self.now object.0) 0) u64.MAX }
+    /// The dependencies of the slots of the object at a place, at most `u64::MAX`.
+    fn dependencies_of_object(&self, place: u32) -> u64
+        ensures { result ≡ min (option_map_or (dependencies_of_object self.now.document) (slice_get self.now.document.objects place) 0) u64.MAX }
     {
-        let (_, entry) = self.objects.get_index(object.0 as usize).unwrap();
-        self.reached_of_properties(object, &entry.properties)
-    }
-
-    /// The number of objects: each number below it is in use, by the object at that place.
-    fn objects_in_use(&self) -> u32
-        ensures count { result ≡ length self.now.document.objects }
-        ensures used { (n : ℕ) → n < result → IsSome (name_at self.now n) }
-        ensures places { (n : ℕ) (d : Object) → n < result → object_at self.now n ≡ Some (slice_index_or self.now.document.objects n d) }
-    {
-        self.objects.len() as u32
+        match self.objects.get_index(place as usize) {
+            Some((_, entry)) => self.reached_of_properties(entry.number, &entry.properties),
+            None => 0,
+        }
     }
 
     /// The number of dependencies of all slots, each counted as often as it stands; `u64::MAX` where
@@ -163,8 +165,8 @@ impl Tables {
         ensures { result ≡ min (dependencies_of_document self.now.document) u64.MAX }
     {
         let mut count: u64 = 0;
-        for number in 0..self.objects_in_use() {
-            count = count.saturating_add(self.dependencies_of_object(ObjectId(number)));
+        for place in 0..self.object_count() {
+            count = count.saturating_add(self.dependencies_of_object(place));
         }
         count
     }

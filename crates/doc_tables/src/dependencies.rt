@@ -86,12 +86,16 @@ impl Tables {
         present(alloc, &found)
     }
 
-    /// One above the greatest number: each below it is in use.
-    fn limit(&self) -> u32
-        ensures limit { result ≡ length self.now.slots }
-        ensures used { (n : ℕ) → n < result → IsSome (slot_at self.now n) }
+    /// The numbers of the slots on which the slot of a number depends; none where it is not in use.
+    fn dependencies_at(&self, alloc: Global, number: u32) -> Result<Vec<u32>, AllocError>
+        ensures { IfOk result (λ v. map (slot_at self.now) v.items ≡ map Some (deps_at self.now number)) }
     {
-        self.places.len() as u32
+        if self.is_slot(number) {
+            let found = self.deps_of(alloc, SlotId(number))?;
+            numbers(alloc, &found)
+        } else {
+            Ok(Vec::new(alloc))
+        }
     }
 
     /// For each number the numbers of the slots on which its slot depends, in their order and with
@@ -100,9 +104,8 @@ impl Tables {
         ensures { IfOk result (λ v. AreDependencyLists self.now (map (λ list. list.items) v.items)) }
     {
         let mut lists = Vec::new(alloc);
-        for number in 0..self.limit() {
-            let found = self.deps_of(alloc, SlotId(number))?;
-            lists.push(numbers(alloc, &found)?)?;
+        for number in 0..self.slot_limit() {
+            lists.push(self.dependencies_at(alloc, number)?)?;
         }
         Ok(lists)
     }

@@ -1,7 +1,7 @@
 ghost use Rattle.std.specs.Prelude.{◌≡◌, IfOk};
 
 use document_model::Content;
-use fc_base::{Label, Name, SlotId};
+use fc_base::{Label, Name, ObjectId, SlotId};
 use indexmap::IndexMap;
 use property_types::PropType;
 use std::alloc::{AllocError, Global};
@@ -14,11 +14,19 @@ pub struct PropertyEntry {
     pub content: Content,
 }
 
-/// A VarSet: its label and its properties in their order.
+/// A VarSet: its number, its label, and its properties in their order.
 #[derive(Drop)]
 pub struct ObjectEntry {
+    pub number: ObjectId,
     pub label: Label,
     pub properties: IndexMap<Name, PropertyEntry>,
+}
+
+/// The slot of a property, by the names of its object and of the property.
+#[derive(Drop)]
+pub struct SlotKey {
+    pub object: Name,
+    pub property: Name,
 }
 
 /// Where a slot stands: the place of its object, and that of its property in the object.
@@ -48,5 +56,16 @@ impl PropertyEntry {
             prop: self.prop.copy(alloc)?,
             content: copy_content(alloc, &self.content)?,
         })
+    }
+}
+
+impl SlotKey {
+    /// An equal key.
+    pub(crate) fn copy(&self, alloc: Global) -> Result<SlotKey, AllocError>
+        ensures { IfOk result (λ copy. copy ≡ self.now) }
+    {
+        let object = self.object.copy(alloc)?;
+        let property = self.property.copy(alloc)?;
+        Ok(SlotKey { object, property })
     }
 }

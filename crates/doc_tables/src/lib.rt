@@ -17,6 +17,7 @@ mod entry;
 mod finds_all;
 mod insertion;
 pub mod limits;
+mod numbers;
 mod objects;
 mod rule;
 mod slots;

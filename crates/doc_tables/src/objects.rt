@@ -1,13 +1,14 @@
-ghost use Rattle.std.specs.Prelude.{◌≡◌, ◌<◌, ◌^◌, position, slice_get, IfSome, IsSome, Some, option_map};
+ghost use Rattle.std.specs.Prelude.{◌≡◌, position, slice_get, IsSome, Some, option_map};
 ghost use Rattle.std.specs.Option.{option_and_then, option_copied};
 ghost use Rattle.object_paths.specs.Slots.{same_text};
 ghost use Rattle.document_model.specs.Document.{object_labelled, object_named};
-ghost use Rattle.document_model.specs.Resolution.{resolve};
+ghost use Rattle.document_model.specs.Resolution.{resolve, slot_in};
 ghost use Rattle.doc_tables.specs.Accessors.{IsNumberOf, IsNumberOfObject};
 ghost use Rattle.doc_tables.specs.Entries.{IsEntryFor, number_in};
 ghost use Rattle.doc_tables.specs.Numbered.{name_at, object_at};
 
 use crate::entry::ObjectEntry;
+use crate::numbers::thing_at;
 use crate::tables::Tables;
 use fc_base::{Label, Name, ObjectId, SlotId};
 use indexmap::IndexMap;
@@ -29,15 +30,12 @@ fn place_named(objects: &IndexMap<Name, ObjectEntry>, name: &str) -> Option<usiz
     objects.iter().position(|(other, _)| other.as_str() == name)
 }
 
-/// The number of the object at a place, below 2^32.
-fn number_of_place(place: Option<usize>) -> Option<ObjectId>
-    requires { IfSome place (λ n. n < 2 ^ 32) }
-    ensures { option_map (λ id. id.0) result ≡ place }
+/// The number of an object, where there is one.
+fn number_of(entry: Option<&ObjectEntry>) -> Option<ObjectId>
+    ensures { result ≡ option_map (λ e. e.number) (option_copied entry.entry) }
 {
-    match place {
-        None => None,
-        Some(place) => Some(ObjectId(place as u32)),
-    }
+    let entry = entry?;
+    Some(entry.number)
 }
 
 /// The number of a slot of an object, where there is one.
@@ -75,8 +73,8 @@ impl Tables {
         requires { IsSome (name_at self.now object.0) }
         ensures { IsEntryFor self.now (object_at self.now object.0) (Some result.now) }
     {
-        let (_, entry) = self.objects.get_index(object.0 as usize).unwrap();
-        entry
+        let name = thing_at(&self.object_names, object.0);
+        self.objects.get(name).unwrap()
     }
 
     /// The entry of the object of that name.
@@ -109,15 +107,22 @@ impl Tables {
         }
     }
 
+    /// The slot of that name of an object; none exactly where it has none.
+    pub fn slot_of(&self, object: ObjectId, name: &SlotName) -> Option<SlotId>
+        requires { IsSome (name_at self.now object.0) }
+        ensures { IsNumberOf self.now result
+            (option_and_then (λ o. slot_in self.now.document o name.now) (object_at self.now object.0)) }
+    {
+        let owner = thing_at(&self.object_names, object.0);
+        let entry = self.objects.get(owner).unwrap();
+        number_in(Some(entry), name)
+    }
+
     /// The object at a place of the document, from 0; none exactly past the last.
     pub fn object_at(&self, place: u32) -> Option<ObjectId>
         ensures { IsNumberOfObject self.now result (slice_get self.now.document.objects place) }
     {
-        if (place as usize) < self.objects.len() {
-            Some(ObjectId(place))
-        } else {
-            None
-        }
+        number_of(entry_at(&self.objects, Some(place as usize)))
     }
 
     /// The first object of that name; none exactly where there is none. The objects are looked through
@@ -126,7 +131,7 @@ impl Tables {
         ensures { IsNumberOfObject self.now result (object_named self.now.document name.now) }
     {
         let place = place_named(&self.objects, name);
-        number_of_place(place)
+        number_of(entry_at(&self.objects, place))
     }
 
     /// The first object of that label; none exactly where there is none. The objects are looked through
@@ -135,7 +140,7 @@ impl Tables {
         ensures { IsNumberOfObject self.now result (object_labelled self.now.document label.now) }
     {
         let place = place_labelled(&self.objects, label);
-        number_of_place(place)
+        number_of(entry_at(&self.objects, place))
     }
 
     /// The name of an object.
@@ -143,8 +148,7 @@ impl Tables {
         requires { IsSome (name_at self.now object.0) }
         ensures { Some result.now ≡ name_at self.now object.0 }
     {
-        let (name, _) = self.objects.get_index(object.0 as usize).unwrap();
-        name
+        thing_at(&self.object_names, object.0)
     }
 
     /// The label of an object.
@@ -152,7 +156,8 @@ impl Tables {
         requires { IsSome (name_at self.now object.0) }
         ensures { Some result.now ≡ option_map (λ o. o.label) (object_at self.now object.0) }
     {
-        let (_, entry) = self.objects.get_index(object.0 as usize).unwrap();
+        let name = thing_at(&self.object_names, object.0);
+        let entry = self.objects.get(name).unwrap();
         &entry.label
     }
 }

@@ -1,4 +1,4 @@
-ghost use Rattle.std.specs.Prelude.{◌≡◌, ◌<◌, ◌^◌, ◌++◌, length, map, IfOk, IfSome, IsSome, IsTrue, OnOk, option_map, slice_get, string_bytes};
+ghost use Rattle.std.specs.Prelude.{◌≡◌, ◌<◌, ◌^◌, ◌++◌, length, map, is_some, IfOk, IfSome, IsSome, IsSomeAnd, IsTrue, OnOk, Some, option_map, slice_get, string_bytes};
 ghost use Rattle.std.specs.List.{flat_map};
 ghost use Rattle.std.specs.Option.{option_and_then};
 ghost use Rattle.fc_base.specs.Texts.{is_text_value};
@@ -6,9 +6,11 @@ ghost use Rattle.expr_tree.specs.References.{reference_count};
 ghost use Rattle.document_model.specs.Slots.{slots, type_of};
 ghost use Rattle.doc_tables.specs.Accessors.{AreNumbersOf, IsNumberOf, IsRule, outside_path, own_at, rule_at, tree_at};
 ghost use Rattle.doc_tables.specs.Entries.{IsEntryOf, numbers_in};
+ghost use Rattle.doc_tables.specs.Held.{slot_of_key};
 ghost use Rattle.doc_tables.specs.Numbered.{name_at, slot_at};
 
-use crate::entry::{ObjectEntry, PropertyEntry};
+use crate::entry::{ObjectEntry, PropertyEntry, SlotKey};
+use crate::numbers::{is_used, thing_at};
 use crate::rule::Rule;
 use crate::tables::Tables;
 use document_model::Content;
@@ -63,22 +65,36 @@ fn number_at_place(objects: &IndexMap<Name, ObjectEntry>, place: usize) -> Optio
 }
 
 impl Tables {
+    /// The names of a slot.
+    fn key_of(&self, slot: SlotId) -> &SlotKey
+        requires { IsSome (slot_at self.now slot.0) }
+        ensures { Some (slot_of_key result.now) ≡ slot_at self.now slot.0 }
+    {
+        thing_at(&self.slot_keys, slot.0)
+    }
+
     /// What stands in a slot.
     pub(crate) fn entry_of(&self, slot: SlotId) -> &PropertyEntry
         requires { IsSome (slot_at self.now slot.0) }
         ensures { IsEntryOf self.now slot.0 result.now }
     {
-        let place = self.places[slot.0 as usize];
-        let (_, object) = self.objects.get_index(place.object).unwrap();
-        let (_, entry) = object.properties.get_index(place.property).unwrap();
-        entry
+        let key = thing_at(&self.slot_keys, slot.0);
+        let object = self.objects.get(&key.object).unwrap();
+        object.properties.get(&key.property).unwrap()
+    }
+
+    /// Whether a number is that of a slot.
+    pub(crate) fn is_slot(&self, number: u32) -> bool
+        ensures { result ≡ is_some (slot_at self.now number) }
+    {
+        is_used(&self.slot_keys, number)
     }
 
     /// One above the greatest number that a slot has had.
     pub fn slot_limit(&self) -> u32
         ensures { result ≡ length self.now.slots }
     {
-        self.places.len() as u32
+        self.slot_keys.len() as u32
     }
 
     /// The type of a slot; none exactly for a cell.
@@ -116,7 +132,7 @@ impl Tables {
     /// The rule of a slot.
     pub fn rule_of(&self, slot: SlotId) -> Rule
         requires { IsSome (slot_at self.now slot.0) }
-        ensures { IfSome (rule_at self.now slot.0) (IsRule self.now result) }
+        ensures { IsSomeAnd (rule_at self.now slot.0) (IsRule self.now result) }
     {
         match &self.entry_of(slot).content {
             Content::Own(_) => Rule::Own,
@@ -140,10 +156,8 @@ impl Tables {
         requires { IsSome (slot_at self.now slot.0) }
         ensures { name_at self.now result.0 ≡ option_map (λ s. s.object) (slot_at self.now slot.0) }
     {
-        let place = self.places[slot.0 as usize];
-        let (_, object) = self.objects.get_index(place.object).unwrap();
-        let (_, _) = object.properties.get_index(place.property).unwrap(); // for the proof
-        ObjectId(place.object as u32)
+        let key = thing_at(&self.slot_keys, slot.0);
+        self.objects.get(&key.object).unwrap().number
     }
 
     /// All slots, in the order of the document. Each is visited.
@@ -160,10 +174,12 @@ impl Tables {
         ensures path { IfOk result (λ text. Some (string_bytes text) ≡ option_map outside_path (slot_at self.now slot.0)) }
         ensures value { IfOk result (λ text. IsTrue (is_text_value (string_bytes text))) }
     {
-        let place = self.places[slot.0 as usize];
-        let (owner, object) = self.objects.get_index(place.object).unwrap();
-        let (name, _) = object.properties.get_index(place.property).unwrap();
-        let path = slot_path(alloc, owner, &SlotName::Plain(name.copy(alloc)?))?;
+        let key = self.key_of(slot);
+        let path = slot_path(
+            alloc,
+            &key.object,
+            &SlotName::Plain(key.property.copy(alloc)?),
+        )?;
         String::from_str(alloc, path.as_str())
     }
 

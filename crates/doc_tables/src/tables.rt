@@ -7,7 +7,7 @@ ghost use Rattle.doc_tables.specs.Numbered.{IsNumbered};
 ghost use Rattle.doc_tables.specs.Shown.{shown};
 ghost use Rattle.doc_tables.specs.VarSets.{HoldsVarSets};
 
-use crate::entry::{ObjectEntry, PropertyEntry, SlotPlace};
+use crate::entry::{ObjectEntry, PropertyEntry, SlotKey};
 use crate::insertion::{insert_object, insert_property};
 use fc_base::Name;
 use indexmap::IndexMap;
@@ -19,9 +19,16 @@ use std::marker::Model;
 /// they keep as long as they are there. It is seen as the document with these numbers.
 #[derive(Drop)]
 pub struct Tables {
+    /// The objects by name, in the order of the document.
     pub(crate) objects: IndexMap<Name, ObjectEntry>,
-    /// Where the slot of each number stands.
-    pub(crate) places: Vec<SlotPlace>,
+    /// The name of the object of each number.
+    pub(crate) object_names: Vec<Option<Name>>,
+    /// The slot of each number.
+    pub(crate) slot_keys: Vec<Option<SlotKey>>,
+    /// No number of an object below is free.
+    pub(crate) free_object: usize,
+    /// No number of a slot below is free.
+    pub(crate) free_slot: usize,
 }
 
 impl Model for Tables {
@@ -68,7 +75,55 @@ fn copy_objects(
         let name = name.copy(alloc)?;
         let label = entry.label.copy(alloc)?;
         let properties = copy_properties(alloc, &entry.properties)?;
-        insert_object(&mut copies, name, ObjectEntry { label, properties })?;
+        let number = entry.number;
+        let entry = ObjectEntry {
+            number,
+            label,
+            properties,
+        };
+        insert_object(&mut copies, name, entry)?;
+    }
+    Ok(copies)
+}
+
+/// An equal name, where there is one.
+fn copy_name(alloc: Global, name: &Option<Name>) -> Result<Option<Name>, AllocError>
+    ensures { IfOk result (λ copy. copy ≡ name.now) }
+{
+    match name {
+        Some(name) => Ok(Some(name.copy(alloc)?)),
+        None => Ok(None),
+    }
+}
+
+/// The same names.
+fn copy_names(alloc: Global, names: &Vec<Option<Name>>) -> Result<Vec<Option<Name>>, AllocError>
+    ensures { IfOk result (λ copies. copies.items ≡ names.now.items) }
+{
+    let mut copies = Vec::new(alloc);
+    for name in names {
+        copies.push(copy_name(alloc, name)?)?;
+    }
+    Ok(copies)
+}
+
+/// An equal key, where there is one.
+fn copy_key(alloc: Global, key: &Option<SlotKey>) -> Result<Option<SlotKey>, AllocError>
+    ensures { IfOk result (λ copy. copy ≡ key.now) }
+{
+    match key {
+        Some(key) => Ok(Some(key.copy(alloc)?)),
+        None => Ok(None),
+    }
+}
+
+/// The same keys.
+fn copy_keys(alloc: Global, keys: &Vec<Option<SlotKey>>) -> Result<Vec<Option<SlotKey>>, AllocError>
+    ensures { IfOk result (λ copies. copies.items ≡ keys.now.items) }
+{
+    let mut copies = Vec::new(alloc);
+    for key in keys {
+        copies.push(copy_key(alloc, key)?)?;
     }
     Ok(copies)
 }
@@ -80,7 +135,10 @@ impl Tables {
     {
         Tables {
             objects: IndexMap::new(alloc),
-            places: Vec::new(alloc),
+            object_names: Vec::new(alloc),
+            slot_keys: Vec::new(alloc),
+            free_object: 0,
+            free_slot: 0,
         }
     }
 
@@ -89,8 +147,15 @@ impl Tables {
         ensures { IfOk result (λ tables. tables ≡ self.now) }
     {
         let objects = copy_objects(alloc, &self.objects)?;
-        let places = Vec::from_slice(alloc, self.places.as_slice())?;
-        Ok(Tables { objects, places })
+        let object_names = copy_names(alloc, &self.object_names)?;
+        let slot_keys = copy_keys(alloc, &self.slot_keys)?;
+        Ok(Tables {
+            objects,
+            object_names,
+            slot_keys,
+            free_object: self.free_object,
+            free_slot: self.free_slot,
+        })
     }
 
     /// Nothing to do: the objects are VarSets, and the expressions those of their slots.

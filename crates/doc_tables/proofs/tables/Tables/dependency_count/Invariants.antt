@@ -1,7 +1,7 @@
-use Rattle.std.proofs.Common.{◌≡◌, ◌≤◌, min, sum_by, take}
+use Rattle.std.proofs.Common.{◌≡◌, min, sum_by, take}
 use Rattle.doc_tables.specs.Counted.{dependencies_of_object}
 use Rattle.doc_tables.proofs.tables.Tables.dependency_count.Given as goal
 
-abbrev pub invariant-loop-number : goal.invariant-loop-number
-invariant-loop-number l =
-    l.count ≡ min (sum_by (dependencies_of_object l.self.document) (take l.number l.self.document.objects)) 18446744073709551615
+abbrev pub invariant-loop-place : goal.invariant-loop-place
+invariant-loop-place l =
+    l.count ≡ min (sum_by (dependencies_of_object l.self.document) (take l.place l.self.document.objects)) 18446744073709551615

@@ -1,7 +1,5 @@
 use Rattle.std.proofs.Common.{◌≡◌, ◌++◌, [], ◌∷◌, ℕ, List, Some, Vec, Global, map, length, sym, subst, ap, ◌∙◌, arith}
 use Rattle.std.proofs.lemmas.List.{map-append, length-map}
-use Rattle.std.proofs.lemmas.Simd.{map-map}
-use Rattle.fc_base.specs.declared.ids.SlotId.{SlotId}
 use Rattle.doc_tables.specs.Accessors.{deps_at}
 use Rattle.doc_tables.specs.DependencyLists.{list_at}
 use Rattle.doc_tables.specs.Numbered.{slot_at}
@@ -14,17 +12,13 @@ loop-number-preserved c =
     let k : ℕ = c.loop-number.number in
     let seen : Vec ℕ Global → List ℕ = λ list. list.items in
     let old = c.loop-number.lists in
-    let one = c.in_ok-numbers.field-0 in
+    let one = c.in_ok-dependencies_at.field-0 in
     let pushed = c.in_ok-push.ensures.items in
     let grown : map seen c.push.new.self.items ≡ map seen old.items ++ one.items ∷ [] = ap (map seen) pushed ∙ map-append seen old.items (one ∷ []) in
-    let own : map (slot_at t) one.items ≡ map Some (deps_at t k) =
-    ap (map (slot_at t)) (c.in_ok-numbers.ensures ∙ ap (map (λ (id : SlotId). id.0)) c.deref.ensures.value)
-    ∙ map-map (slot_at t) (λ (id : SlotId). id.0) c.in_ok-found.found.items ∙ c.in_ok-found.ensures
-    in
     let count : length (map seen old.items) ≡ k = omega (arith, length-map old.items seen, c.loop-number.invariant.count) in
     record {
       count = omega (arith, c.in_ok-push.ensures.len, c.loop-number.invariant.count);
       each = λ n h.
           subst (λ (ls : List (List ℕ)). map (slot_at t) (list_at ls n) ≡ map Some (deps_at t n)) (sym grown)
-          (lists-more t (map seen old.items) one.items k count c.loop-number.invariant.each own n h);
+          (lists-more t (map seen old.items) one.items k count c.loop-number.invariant.each c.in_ok-dependencies_at.ensures n h);
     }

@@ -1,10 +1,17 @@
 use Rattle.std.proofs.Common.{sym, ap, ◌∙◌}
-use Rattle.std.specs.Option.{option_map}
-use Rattle.std.specs.Map.Iter.{deref_pair}
+use Rattle.std.specs.Option.{option_copied}
+use Rattle.doc_tables.proofs.Finding.{looked-some}
+use Rattle.doc_tables.proofs.HeldLemmas.{name-used, owner-named}
 use Rattle.doc_tables.proofs.ResolveLemmas.{here-read}
 use Rattle.doc_tables.proofs.tables.Tables.entry_of_object.Goals as goal
 
+pub thing_at-name-requires : goal.thing_at-name-requires
+thing_at-name-requires c = name-used c.args.self.now c.self.inside c.self.invariant c.self.view_is c.args.object.0 c.requires
+
+pub unwrap-requires : goal.unwrap-requires
+unwrap-requires c = looked-some c.get.result _ c.get.ensures.value (owner-named c.args.self.now c.self.inside c.self.invariant c.self.view_is c.args.object.0 c.thing_at-name.result.now c.thing_at-name.ensures)
+
 pub returns : goal.returns
 returns c =
-    here-read c.args.self.now c.self.inside c.self.invariant c.self.view_is c.args.object.0 (deref_pair c.unwrap.result)
-    (sym (ap (option_map deref_pair) c.unwrap.ensures) ∙ c.get_index.ensures.entry)
+    here-read c.args.self.now c.self.inside c.self.invariant c.self.view_is c.args.object.0 c.thing_at-name.result.now c.unwrap.result.now c.thing_at-name.ensures
+    (sym (ap option_copied c.unwrap.ensures) ∙ c.get.ensures.value)
