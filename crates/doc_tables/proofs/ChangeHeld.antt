@@ -8,6 +8,8 @@ use Rattle.std.proofs.lemmas.Bool.{false≢true}
 use Rattle.std.proofs.lemmas.List.{length-map, map-append}
 use Rattle.std.proofs.lemmas.List.Concat.{length-flat_map}
 use Rattle.std.proofs.lemmas.Option.{slice_get-map}
+use Rattle.std.proofs.lemmas.Simd.{map-map}
+use Rattle.fc_base.specs.Texts.{is_label, is_name}
 use Rattle.indexmap.specs.IndexMap.{get}
 use Rattle.object_paths.specs.declared.slot_name.SlotName.TheVariants.{Plain}
 use Rattle.object_paths.specs.Slots.{Slot, same_text}
@@ -17,8 +19,10 @@ use Rattle.document_model.specs.declared.content.Content.{Content}
 use Rattle.document_model.specs.declared.content.Content.TheVariants.{Own}
 use Rattle.document_model.specs.declared.kind.ObjectKind.TheVariants.{VarSet}
 use Rattle.document_model.specs.Document.{Document, Object, Property, object_named}
+use Rattle.document_model.specs.Kinds.{is_dynamic_name}
+use Rattle.document_model.specs.WellFormed.{IsWellFormed, is_added_type}
 use Rattle.document_model.specs.Edited.{new_object, new_property, with_content, with_object, with_property}
-use Rattle.document_model.specs.Slots.{slots}
+use Rattle.document_model.specs.Slots.{slots, type_of}
 use Rattle.doc_tables.specs.declared.entry.ObjectEntry.{ObjectEntry}
 use Rattle.doc_tables.specs.declared.entry.PropertyEntry.{PropertyEntry}
 use Rattle.doc_tables.specs.declared.entry.SlotKey.{SlotKey}
@@ -27,16 +31,18 @@ use Rattle.doc_tables.specs.declared.tables.Tables.TheInside.{Inside}
 use Rattle.doc_tables.specs.Entries.{HasFewReferences}
 use Rattle.doc_tables.specs.Held.{property_held, object_held, object_numbered, slot_of_key, slots_of_keys, document_held, entry_at, place_of_key, numbered_held, IsHeld}
 use Rattle.doc_tables.specs.Numbered.{Numbered, LeadsTo, at_number, name_at, object_at, slot_at}
-use Rattle.doc_tables.specs.Primitives.{lacks_property}
+use Rattle.doc_tables.specs.Primitives.{IsContentAt, lacks_property}
 use Rattle.doc_tables.specs.Shown.{Shown, shown, change_at, with_entry, object_with}
 use Rattle.doc_tables.specs.Table.{HasRoom, IsTable}
 use Rattle.doc_tables.proofs.ChangeLemmas.{one_more, more-entries, more-document, more-numbers, more-slots, one_filled, filled-entries, filled-document, filled-numbers, slots-filled, one_written, written-entries, written-document, written-numbers, written-slots}
 use Rattle.doc_tables.proofs.CountLemmas.{slots-counted, sum_by-map, sum_by-same}
 use Rattle.doc_tables.proofs.Finding.{find-map, find-same, lookup-find, placed-key, same_text-sym}
 use Rattle.doc_tables.proofs.HeldBy.{document-shown, document-of, entries-shown, names-shown, number_by, slots_by, slots-shown, still-held}
-use Rattle.doc_tables.proofs.HeldLemmas.{KeyAt, Named, Owned, Owns, key-at, key-place, object-found, one_slot, owner-looked, owns-held, slot_named, used-read}
+use Rattle.doc_tables.proofs.HeldLemmas.{KeyAt, Named, Owned, Owns, entry-held, key-at, key-place, object-found, one_slot, owner-looked, owns-held, slot_named, used-read}
 use Rattle.doc_tables.proofs.TableLemmas.{apart, at_number-map, grown-into, grown-kept, grown-new, pushed-into, pushed-new, room-more, table-count, table-more, used-within}
+use Rattle.document_model.proofs.FormLemmas.{IsObject-new_object, IsProperty-new_property, IsWellFormed-with_object, IsWellFormed-with_property}
 use Rattle.document_model.proofs.Members.{IsIn-left}
+use Rattle.document_model.proofs.TypedContents.{IsWellFormed-with_typed_content}
 
 -- no object of a name
 none-found : (es : List Owned) (name : List ℕ) → find (λ (o : Owned). same_text o.0 name) es ≡ None → list_any (pointwise nat_eq name) (map (λ (o : Shown). o.0) (map shown es)) ≡ false
@@ -129,6 +135,10 @@ module _ (v : Numbered) (t : Inside) (held : IsHeld t) (is : numbered_held t ≡
       length-slots : (os : List Shown) → length (flat_map slots_by os) ≡ sum_by (λ (o : Shown). length o.2) os
       length-slots os = length-flat_map slots_by os ∙ sum_by-same (λ (o : Shown). length (slots_by o)) (λ (o : Shown). length o.2) os (λ o. let f : Named → ℕ × Slot = λ e. (e.1.slot.0, record { object = o.0; name = Plain e.0 }) in length-map o.2 f)
 
+-- the document that is shown is one of the product
+pub form-seen : (v : Numbered) (t : Inside) → IsHeld t → numbered_held t ≡ v → IsWellFormed v.document
+form-seen v t held is = subst IsWellFormed (ap (λ (w : Numbered). w.document) is) held.form
+
 -- ---- one more object
 module _ (v : Numbered) (t : Inside) (held : IsHeld t) (is : numbered_held t ≡ v) where
   not-found : (name : List ℕ) → object_named v.document name ≡ None → find (λ (o : Owned). same_text o.0 name) t.objects.entries ≡ None
@@ -152,6 +162,7 @@ module _ (v : Numbered) (t : Inside) (held : IsHeld t) (is : numbered_held t ≡
         (subst (λ (l : List (Option SlotKey)). IsTable (slots_of_keys l) (flat_map slots_by os)) (sym keys) (slots-shown t held))
         (subst (HasRoom u.object_names.items) (sym next_object) (subst (λ (l : List (Option (List ℕ))). HasRoom l t.free_object) (sym names) held.object_room))
         (subst (HasRoom (slots_of_keys u.slot_keys.items)) (sym next_slot) (subst (λ (l : List (Option SlotKey)). HasRoom (slots_of_keys l) t.free_slot) (sym keys) held.slot_room))
+        (subst IsWellFormed (sym (document-of u os objects ∙ sym (document-shown t.objects.entries))) held.form)
 
     pub kept-view : numbered_held u ≡ v
     kept-view =
@@ -163,21 +174,6 @@ module _ (v : Numbered) (t : Inside) (held : IsHeld t) (is : numbered_held t ≡
       (others : (m : ℕ) → m ≢ n → at_number u.object_names.items m ≡ at_number t.object_names.items m) (keys : u.slot_keys.items ≡ t.slot_keys.items) where
     free-name : at_number t.object_names.items n ≡ None
     free-name = names-are v t held is n ∙ free
-
-    pub added-held : length v.document.objects + 1 < 2 ^ 32 → length u.object_names.items < 2 ^ 32 → u.free_object ≡ n + 1 → u.free_slot ≡ t.free_slot → IsHeld u
-    added-held few small next_object next_slot =
-        let os = map shown t.objects.entries in
-        let count : length (map object_held t.objects.entries) ≡ length v.document.objects = ap (λ (w : Numbered). length w.document.objects) is in
-        still-held u (one_more os name label n) objects
-        (more-entries os name label n (entries-shown t held) (none-found t.objects.entries name (not-found name new)) (omega (arith, length-map t.objects.entries object_held, length-map t.objects.entries shown)))
-        (subst (IsTable u.object_names.items) (sym (more-numbers os name label n))
-        (table-more t.object_names.items (map number_by os) (names-shown t held) u.object_names.items (map number_by os ++ (n, name) ∷ []) n name free-name here others
-        (λ x i. pushed-into (map number_by os) (n, name) x i) (λ x i. IsIn-left (map number_by os) ((n, name) ∷ []) x i) (pushed-new (map number_by os) (n, name))))
-        (subst (IsTable (slots_of_keys u.slot_keys.items)) (sym (more-slots os name label n))
-        (subst (λ (l : List (Option SlotKey)). IsTable (slots_of_keys l) (flat_map slots_by os)) (sym keys) (slots-shown t held)))
-        (subst (HasRoom u.object_names.items) (sym next_object)
-        (room-more t.object_names.items u.object_names.items n name (λ m k. ap is_some (names-are v t held is m) ∙ used m k) here others small))
-        (subst (HasRoom (slots_of_keys u.slot_keys.items)) (sym next_slot) (subst (λ (l : List (Option SlotKey)). HasRoom (slots_of_keys l) t.free_slot) (sym keys) held.slot_room))
 
     pub added-leads : LeadsTo v (numbered_held u) (with_object v.document (new_object name label VarSet))
     added-leads =
@@ -193,6 +189,24 @@ module _ (v : Numbered) (t : Inside) (held : IsHeld t) (is : numbered_held t ≡
             slots = λ m s h k. ap (λ (l : List (Option SlotKey)). at_number (slots_of_keys l) m) keys ∙ ap (λ (w : Numbered). slot_at w m) is ∙ h;
           };
         }
+
+    pub added-held : length v.document.objects + 1 < 2 ^ 32 → length u.object_names.items < 2 ^ 32 → u.free_object ≡ n + 1 → u.free_slot ≡ t.free_slot
+        → IsTrue (is_name name) → IsTrue (is_label label) → IsHeld u
+    added-held few small next_object next_slot named labelled =
+        let os = map shown t.objects.entries in
+        let count : length (map object_held t.objects.entries) ≡ length v.document.objects = ap (λ (w : Numbered). length w.document.objects) is in
+        still-held u (one_more os name label n) objects
+        (more-entries os name label n (entries-shown t held) (none-found t.objects.entries name (not-found name new)) (omega (arith, length-map t.objects.entries object_held, length-map t.objects.entries shown)))
+        (subst (IsTable u.object_names.items) (sym (more-numbers os name label n))
+        (table-more t.object_names.items (map number_by os) (names-shown t held) u.object_names.items (map number_by os ++ (n, name) ∷ []) n name free-name here others
+        (λ x i. pushed-into (map number_by os) (n, name) x i) (λ x i. IsIn-left (map number_by os) ((n, name) ∷ []) x i) (pushed-new (map number_by os) (n, name))))
+        (subst (IsTable (slots_of_keys u.slot_keys.items)) (sym (more-slots os name label n))
+        (subst (λ (l : List (Option SlotKey)). IsTable (slots_of_keys l) (flat_map slots_by os)) (sym keys) (slots-shown t held)))
+        (subst (HasRoom u.object_names.items) (sym next_object)
+        (room-more t.object_names.items u.object_names.items n name (λ m k. ap is_some (names-are v t held is m) ∙ used m k) here others small))
+        (subst (HasRoom (slots_of_keys u.slot_keys.items)) (sym next_slot) (subst (λ (l : List (Option SlotKey)). HasRoom (slots_of_keys l) t.free_slot) (sym keys) held.slot_room))
+        (subst IsWellFormed (sym added-leads.document)
+        (IsWellFormed-with_object v.document (new_object name label VarSet) (form-seen v t held is) (IsObject-new_object name label VarSet named labelled tt) new))
 
 -- ---- one more property
 module _ (v : Numbered) (t : Inside) (held : IsHeld t) (is : numbered_held t ≡ v) (number : ℕ) (owner : List ℕ) (live : Some owner ≡ name_at v number) where
@@ -269,19 +283,6 @@ module _ (v : Numbered) (t : Inside) (held : IsHeld t) (is : numbered_held t ≡
       few-references : HasFewReferences entry.content
       few-references = subst HasFewReferences (sym zero) tt
 
-      pub filled-held : ((m : ℕ) → m < entry.slot.0 → IsSome (slot_at v m)) → length (slots v.document) + 1 < 2 ^ 32 → length u.slot_keys.items < 2 ^ 32 → u.free_object ≡ t.free_object → u.free_slot ≡ entry.slot.0 + 1 → IsHeld u
-      filled-held used few small next_object next_slot =
-          still-held u (one_filled os i (shown o) name entry) objects
-          (filled-entries os i (shown o) name entry shown-at (entries-shown t held) (record { one_slot = one; references = few-references }) no-name
-          (omega (arith, slots-counted v t held is, sum_by-map (λ (x : Shown). length x.2) shown t.objects.entries)))
-          (subst (IsTable u.object_names.items) (sym (filled-numbers os i (shown o) name entry))
-          (subst (λ (l : List (Option (List ℕ))). IsTable l (map number_by os)) (sym names) (names-shown t held)))
-          slots-more
-          (subst (HasRoom u.object_names.items) (sym next_object) (subst (λ (l : List (Option (List ℕ))). HasRoom l t.free_object) (sym names) held.object_room))
-          (subst (HasRoom after) (sym next_slot)
-          (room-more before after entry.slot.0 slot (λ m k. ap (λ (w : Numbered). is_some (slot_at w m)) is ∙ used m k) slot-here other-slots
-          (let map-key : Option SlotKey → Option Slot = option_map slot_of_key in omega (arith, length-map u.slot_keys.items map-key))))
-
       pub filled-leads : (q : List ℕ) → name_at v number ≡ Some q → LeadsTo v (numbered_held u) (with_property v.document q (new_property name entry.prop))
       filled-leads q named =
           let own : o.0 ≡ q = found.2 ∙ (let both : Some owner ≡ Some q = live ∙ named in cc) in
@@ -297,6 +298,24 @@ module _ (v : Numbered) (t : Inside) (held : IsHeld t) (is : numbered_held t ≡
                   other-slots m (apart before m entry.slot.0 s was free-slot) ∙ was;
             };
           }
+
+      pub filled-held : ((m : ℕ) → m < entry.slot.0 → IsSome (slot_at v m)) → length (slots v.document) + 1 < 2 ^ 32 → length u.slot_keys.items < 2 ^ 32 → u.free_object ≡ t.free_object → u.free_slot ≡ entry.slot.0 + 1
+          → IsTrue (is_dynamic_name VarSet name) → IsTrue (is_added_type entry.prop) → IsHeld u
+      filled-held used few small next_object next_slot named added =
+          still-held u (one_filled os i (shown o) name entry) objects
+          (filled-entries os i (shown o) name entry shown-at (entries-shown t held) (record { one_slot = one; references = few-references }) no-name
+          (omega (arith, slots-counted v t held is, sum_by-map (λ (x : Shown). length x.2) shown t.objects.entries)))
+          (subst (IsTable u.object_names.items) (sym (filled-numbers os i (shown o) name entry))
+          (subst (λ (l : List (Option (List ℕ))). IsTable l (map number_by os)) (sym names) (names-shown t held)))
+          slots-more
+          (subst (HasRoom u.object_names.items) (sym next_object) (subst (λ (l : List (Option (List ℕ))). HasRoom l t.free_object) (sym names) held.object_room))
+          (subst (HasRoom after) (sym next_slot)
+          (room-more before after entry.slot.0 slot (λ m k. ap (λ (w : Numbered). is_some (slot_at w m)) is ∙ used m k) slot-here other-slots
+          (let map-key : Option SlotKey → Option Slot = option_map slot_of_key in omega (arith, length-map u.slot_keys.items map-key))))
+          (subst IsWellFormed (sym (filled-leads owner (sym live)).document)
+          (IsWellFormed-with_property v.document owner (object_held o) (new_property name entry.prop) (form-seen v t held is) (ap (option_and_then (object_named v.document)) live ∙ found-object) refl
+          (IsProperty-new_property VarSet name entry.prop named added)
+          (ap (list_any (pointwise nat_eq name)) (map-map (λ (p : Property). p.name) property_held o.1.properties.entries) ∙ no-name)))
 
 -- ---- another content
 module _ (v : Numbered) (t : Inside) (held : IsHeld t) (is : numbered_held t ≡ v) (n : ℕ) (key : SlotKey) (h : Some key ≡ at_number t.slot_keys.items n) where
@@ -326,20 +345,6 @@ module _ (v : Numbered) (t : Inside) (held : IsHeld t) (is : numbered_held t ≡
 
     module _ (new : Content) (u : Inside) (objects : map shown u.objects.entries ≡ change_at (object_with new p.property) p.object (map shown t.objects.entries))
         (names : u.object_names.items ≡ t.object_names.items) (keys : u.slot_keys.items ≡ t.slot_keys.items) where
-      pub written-held : HasFewReferences new → u.free_object ≡ t.free_object → u.free_slot ≡ t.free_slot → IsHeld u
-      written-held few next_object next_slot =
-          let os : List Shown = map shown t.objects.entries in
-          let o : Shown = shown k.at.owner in
-          let e : Named = k.at.entry in
-          still-held u (one_written os p.object p.property o e new) objects
-          (written-entries os p.object p.property o e new (entries-shown t held) few)
-          (subst (IsTable u.object_names.items) (sym (written-numbers os p.object p.property o e new))
-          (subst (λ (l : List (Option (List ℕ))). IsTable l (map number_by os)) (sym names) (names-shown t held)))
-          (subst (IsTable (slots_of_keys u.slot_keys.items)) (sym (written-slots os p.object p.property o e new))
-          (subst (λ (l : List (Option SlotKey)). IsTable (slots_of_keys l) (flat_map slots_by os)) (sym keys) (slots-shown t held)))
-          (subst (HasRoom u.object_names.items) (sym next_object) (subst (λ (l : List (Option (List ℕ))). HasRoom l t.free_object) (sym names) held.object_room))
-          (subst (HasRoom (slots_of_keys u.slot_keys.items)) (sym next_slot) (subst (λ (l : List (Option SlotKey)). HasRoom (slots_of_keys l) t.free_slot) (sym keys) held.slot_room))
-
       pub written-leads : (s : Slot) → slot_at v n ≡ Some s → LeadsTo v (numbered_held u) (with_content v.document s new)
       written-leads s found =
           let os : List Shown = map shown t.objects.entries in
@@ -356,3 +361,30 @@ module _ (v : Numbered) (t : Inside) (held : IsHeld t) (is : numbered_held t ≡
               slots = λ m q a b. ap (λ (l : List (Option SlotKey)). at_number (slots_of_keys l) m) keys ∙ ap (λ (w : Numbered). slot_at w m) is ∙ a;
             };
           }
+
+      -- the slot of the number, and its type
+      abbrev own-slot : Slot
+      own-slot = slot_named k.at.owner k.at.entry
+
+      own-found : slot_at v n ≡ Some own-slot
+      own-found = sym (ap (λ (w : Numbered). slot_at w n) is) ∙ k.at.found
+
+      own-type : option_and_then (type_of v.document) (slot_at v n) ≡ Some k.at.entry.1.prop
+      own-type = subst (λ (w : Numbered). option_and_then (type_of w.document) (slot_at w n) ≡ Some k.at.entry.1.prop) is (entry-held t held n k.at).type
+
+      pub written-held : HasFewReferences new → u.free_object ≡ t.free_object → u.free_slot ≡ t.free_slot → IsContentAt v n new → IsHeld u
+      written-held few next_object next_slot fits =
+          let os : List Shown = map shown t.objects.entries in
+          let o : Shown = shown k.at.owner in
+          let e : Named = k.at.entry in
+          still-held u (one_written os p.object p.property o e new) objects
+          (written-entries os p.object p.property o e new (entries-shown t held) few)
+          (subst (IsTable u.object_names.items) (sym (written-numbers os p.object p.property o e new))
+          (subst (λ (l : List (Option (List ℕ))). IsTable l (map number_by os)) (sym names) (names-shown t held)))
+          (subst (IsTable (slots_of_keys u.slot_keys.items)) (sym (written-slots os p.object p.property o e new))
+          (subst (λ (l : List (Option SlotKey)). IsTable (slots_of_keys l) (flat_map slots_by os)) (sym keys) (slots-shown t held)))
+          (subst (HasRoom u.object_names.items) (sym next_object) (subst (λ (l : List (Option (List ℕ))). HasRoom l t.free_object) (sym names) held.object_room))
+          (subst (HasRoom (slots_of_keys u.slot_keys.items)) (sym next_slot) (subst (λ (l : List (Option SlotKey)). HasRoom (slots_of_keys l) t.free_slot) (sym keys) held.slot_room))
+          (subst IsWellFormed (sym (written-leads own-slot own-found).document)
+          (IsWellFormed-with_typed_content v.document own-slot k.at.entry.1.prop new (form-seen v t held is)
+          (sym (ap (option_and_then (type_of v.document)) own-found) ∙ own-type) (fits k.at.entry.1.prop own-type)))

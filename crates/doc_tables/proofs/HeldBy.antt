@@ -9,6 +9,7 @@ use Rattle.object_paths.specs.declared.slot_name.SlotName.TheVariants.{Plain}
 use Rattle.object_paths.specs.Slots.{Slot}
 use Rattle.document_model.specs.declared.kind.ObjectKind.TheVariants.{VarSet}
 use Rattle.document_model.specs.Document.{Document, Object}
+use Rattle.document_model.specs.WellFormed.{IsWellFormed}
 use Rattle.document_model.specs.Edited.{new_object}
 use Rattle.doc_tables.specs.declared.tables.Tables.TheInside.{Inside}
 use Rattle.doc_tables.specs.Held.{property_held, slots_numbered, slots_of_keys, document_held, IsPropertyHeld, IsObjectHeld, IsHeld}
@@ -78,8 +79,8 @@ module _ (t : Inside) where
   module _ (objects : List Shown) (same : map shown t.objects.entries ≡ objects) where
     pub still-held :
         AreEntries objects → IsTable t.object_names.items (map number_by objects) → IsTable (slots_of_keys t.slot_keys.items) (flat_map slots_by objects)
-        → HasRoom t.object_names.items t.free_object → HasRoom (slots_of_keys t.slot_keys.items) t.free_slot → IsHeld t
-    still-held h names slots object_room slot_room =
+        → HasRoom t.object_names.items t.free_object → HasRoom (slots_of_keys t.slot_keys.items) t.free_slot → IsWellFormed (document_held t.objects.entries) → IsHeld t
+    still-held h names slots object_room slot_room form =
         let es = t.objects.entries in
         let own : AreEntries (map shown es) = subst AreEntries (sym same) h in
         record {
@@ -95,6 +96,7 @@ module _ (t : Inside) where
               (subst (λ (l : List Shown). IsTable (slots_of_keys t.slot_keys.items) (flat_map slots_by l)) (sym same) slots);
           object_room = object_room;
           slot_room = slot_room;
+          form = form;
         }
 
     pub document-of : document_held t.objects.entries ≡ document_by objects

@@ -10,6 +10,7 @@ use Rattle.object_paths.specs.Slots.{Slot}
 use Rattle.property_types.specs.declared.prop_type.PropType.TheVariants.{Placement}
 use Rattle.document_model.specs.declared.kind.ObjectKind.TheVariants.{VarSet}
 use Rattle.document_model.specs.Document.{Document, Object, Property}
+use Rattle.document_model.specs.WellFormed.{IsWellFormed}
 use Rattle.document_model.specs.Edited.{new_object, new_property}
 use Rattle.doc_tables.specs.Entries.{HasFewReferences}
 use Rattle.doc_tables.specs.Numbered.{Numbered}
@@ -80,7 +81,7 @@ pub record IsObjectHeld (o : List ℕ × ObjectEntry) : Type 0 where
   pub distinct : IsUnique (pointwise nat_eq) o.1.properties
   pub properties : AllByRecursion IsPropertyHeld o.1.properties.entries
 
--- Objects have distinct names, and the numbers in use are those of the entries.
+-- Objects have distinct names, the numbers in use are those of the entries, and the document is one of the product.
 pub record IsHeld (t : Inside) : Type 0 where
   pub distinct : IsUnique (pointwise nat_eq) t.objects
   pub objects : AllByRecursion IsObjectHeld t.objects.entries
@@ -90,3 +91,4 @@ pub record IsHeld (t : Inside) : Type 0 where
   pub slot_numbers : IsTable (slots_of_keys t.slot_keys.items) (flat_map slots_numbered t.objects.entries)
   pub object_room : HasRoom t.object_names.items t.free_object
   pub slot_room : HasRoom (slots_of_keys t.slot_keys.items) t.free_slot
+  pub form : IsWellFormed (document_held t.objects.entries)

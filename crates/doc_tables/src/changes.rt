@@ -7,12 +7,14 @@ ghost use Rattle.document_model.specs.declared.content.Content.TheVariants.{Own}
 ghost use Rattle.document_model.specs.declared.kind.ObjectKind.TheVariants.{VarSet};
 ghost use Rattle.document_model.specs.Document.{object_named};
 ghost use Rattle.document_model.specs.Edited.{new_object, new_property, with_content, with_object, with_property};
+ghost use Rattle.document_model.specs.Kinds.{is_dynamic_name};
 ghost use Rattle.document_model.specs.Slots.{slots};
+ghost use Rattle.document_model.specs.WellFormed.{is_added_type};
 ghost use Rattle.object_paths.specs.Slots.{Slot};
 ghost use Rattle.doc_tables.specs.Entries.{HasFewReferences};
 ghost use Rattle.doc_tables.specs.Held.{entry_at, place_of_key};
 ghost use Rattle.doc_tables.specs.Numbered.{LeadsTo, name_at, slot_at};
-ghost use Rattle.doc_tables.specs.Primitives.{lacks_property};
+ghost use Rattle.doc_tables.specs.Primitives.{IsContentAt, lacks_property};
 ghost use Rattle.doc_tables.specs.Shown.{change_at, object_with, shown, with_entry};
 
 use crate::entry::{ObjectEntry, PropertyEntry, SlotKey, SlotPlace};
@@ -123,6 +125,7 @@ impl Tables {
         ensures added { OnOk result (LeadsTo self.old self.new (with_object self.old.document (new_object name label VarSet))) }
         ensures unchanged { OnErr result (self.new ≡ self.old) }
     {
+        let _ = (name.as_str(), label.as_str()); // for the proof
         let number = self.free_object_number();
         let own_name = name.copy(*self.objects.allocator())?;
         let properties = IndexMap::new(*self.objects.allocator());
@@ -138,13 +141,16 @@ impl Tables {
         Ok(number)
     }
 
-    /// Adds a property of one slot behind those of an object, with zero in it.
+    /// Adds a property of one slot, of a name and a type that dynamic properties may have, behind those of
+    /// an object, with zero in it.
     pub fn add_property(
         &mut self,
         object: ObjectId,
         name: Name,
         prop: PropType,
     ) -> Result<(), AllocError>
+        requires name { IsTrue (is_dynamic_name VarSet name) }
+        requires added_type { IsTrue (is_added_type prop) }
         requires one_slot { prop ≢ Placement }
         requires live { IsSome (name_at self.old object.0) }
         requires new_name { IsTrue (lacks_property self.old object.0 name) }
@@ -164,9 +170,10 @@ impl Tables {
         Ok(())
     }
 
-    /// Puts another content into a slot.
+    /// Puts another content of its type into a slot.
     pub fn set_rule(&mut self, slot: SlotId, rule: Content) -> Result<(), AllocError>
         requires live { IsSome (slot_at self.old slot.0) }
+        requires content { IsContentAt self.old slot.0 rule }
         requires references { HasFewReferences rule }
         ensures set { OnOk result ((s : Slot) → slot_at self.old slot.0 ≡ Some s
             → LeadsTo self.old self.new (with_content self.old.document s rule)) }

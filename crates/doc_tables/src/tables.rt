@@ -2,6 +2,7 @@ ghost use Rattle.std.specs.Prelude.{◌≡◌, [], map, IfOk};
 ghost use Rattle.std.specs.List.{IsDistinct};
 ghost use Rattle.object_paths.specs.Slots.{same_slot};
 ghost use Rattle.document_model.specs.Slots.{slots};
+ghost use Rattle.document_model.specs.WellFormed.{IsWellFormed};
 ghost use Rattle.doc_tables.specs.Held.{document_held};
 ghost use Rattle.doc_tables.specs.Numbered.{IsNumbered};
 ghost use Rattle.doc_tables.specs.Shown.{shown};
@@ -156,6 +157,13 @@ impl Tables {
             free_object: self.free_object,
             free_slot: self.free_slot,
         })
+    }
+
+    /// Nothing to do: the document is one of the product.
+    pub fn is_well_formed(&self)
+        ensures { IsWellFormed self.now.document }
+    {
+        let _ = &self.objects; // for the proof
     }
 
     /// Nothing to do: the objects are VarSets, and the expressions those of their slots.

@@ -38,6 +38,7 @@ invariant_of-self-2 c =
     (shown-added t.objects.entries c.insert_object.new.objects.entries c.args.name entry c.in_ok-insert_object.ensures.added c.new-properties.ensures.empty)
     c.requires.new_name c.free_object_number-number.ensures.free c.free_object_number-number.ensures.used here others refl
     c.requires.few (omega (arith, c.self.invariant.object_room.few, c.free_object_number-number.ensures.few, c.put.ensures.few 4294967295, ap length c.reserve.ensures.items)) refl refl
+    c.as_str.ensures.name c.as_str-2.ensures.label
 
 pub returns-clause-number : goal.returns-clause-number
 returns-clause-number c = c.put.ensures.here ∙ ap Some c.in_ok-own_name.ensures

@@ -48,6 +48,7 @@ invariant_of-self-2 c =
     (c.in_ok-push_property.ensures.added ∙ ap (λ (e : PropertyEntry). change_at (with_entry (c.args.name, e)) c.unwrap-place.result (map shown t.objects.entries)) c.in_ok-entry.ensures) c.requires.one_slot refl refl c.free_slot_number-slot.ensures.free here others
     c.free_slot_number-slot.ensures.used c.requires.few
     (omega (arith, keys-few c.args.self.now t c.self.invariant c.self.view_is, c.free_slot_number-slot.ensures.few, c.put.ensures.few 4294967295, ap length c.reserve.ensures.items)) refl refl
+    c.requires.name c.requires.added_type
 
 pub returns-clause-added : goal.returns-clause-added
 returns-clause-added c =
