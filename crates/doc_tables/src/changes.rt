@@ -125,7 +125,8 @@ impl Tables {
         ensures added { OnOk result (LeadsTo self.old self.new (with_object self.old.document (new_object name label VarSet))) }
         ensures unchanged { OnErr result (self.new ≡ self.old) }
     {
-        let _ = (name.as_str(), label.as_str()); // for the proof
+        let _ = name.as_str(); // for the proof
+        let _ = label.as_str(); // for the proof
         let number = self.free_object_number();
         let own_name = name.copy(*self.objects.allocator())?;
         let properties = IndexMap::new(*self.objects.allocator());

@@ -8,3 +8,8 @@ pub mod SpellingLemmas
 pub mod Totals
 pub mod UnitAmounts
 pub mod VisitLemmas
+pub mod ValueAggregates
+pub mod ValueAmounts
+pub mod ValueLemmas
+pub mod ValueRows
+pub mod ValueUnits

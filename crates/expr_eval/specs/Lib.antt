@@ -8,4 +8,5 @@ pub mod Outcomes
 pub mod Visited
 pub mod Spelling
 pub mod Kinds
+pub mod ValuesGiven
 pub mod Examples

@@ -3,6 +3,7 @@ ghost use Rattle.fc_base.specs.Places.{Block};
 ghost use Rattle.expr_eval.specs.Examples.{ExpressionsWork};
 ghost use Rattle.expr_eval.specs.Kinds.{NoWrongOperands, OutcomeHasSort};
 ghost use Rattle.expr_eval.specs.Spelling.{OutcomeIgnoresRenaming, OutcomeIgnoresSpelling, SortIgnoresRenaming, SortIgnoresSpelling, VisitsIgnoreRenaming, VisitsIgnoreSpelling};
+ghost use Rattle.expr_eval.specs.ValuesGiven.{OutcomesAreValues};
 ghost use Rattle.expr_eval.specs.Visited.{VisitsAreWithin};
 
 /// Expressions have the sorts and outcomes that were worked out by hand, and as many of their nodes are
@@ -21,6 +22,13 @@ pub fn outcome_has_sort()
 /// whatever it gave on them, the outcome is the same.
 pub fn no_wrong_operands()
     ensures { NoWrongOperands }
+{}
+
+/// Where what the references give are values of the product or faults, so is what an expression that
+/// can be spelled gives: amounts stay in their bound, units keep exponents of -8 to 7, and texts are
+/// text values.
+pub fn outcomes_are_values()
+    ensures { OutcomesAreValues }
 {}
 
 /// The outcome of an expression hangs on what its references give, and not on how they are spelled.
