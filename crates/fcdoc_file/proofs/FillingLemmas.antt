@@ -1,11 +1,10 @@
--- Tables that are filled object by object, and property by property.
-use Rattle.std.proofs.Common.{◌≡◌, ◌+◌, ◌≤◌, ◌<◌, ◌^◌, ◌&&◌, ◌||◌, ℕ, Bool, true, false, not, cond, leb, List, [], ◌∷◌, ◌++◌, map, length, take, drop, get_or, sum_by, Option, Some, None, IsSome, refl, sym, ap, subst, ◌∙◌, append_assoc, append-nil, length-append, arith}
-use Rattle.std.specs.List.{find, flat_map, list_any, list_all}
+-- Documents that are filled object by object, and property by property.
+use Rattle.std.proofs.Common.{◌≡◌, ◌+◌, ◌≤◌, ◌<◌, ◌^◌, ◌&&◌, ◌||◌, ℕ, suc, Bool, true, false, not, cond, leb, List, [], ◌∷◌, ◌++◌, map, length, take, drop, get_or, sum_by, Option, Some, None, refl, sym, ap, subst, ◌∙◌, append-nil, length-append, arith}
+use Rattle.std.specs.List.{find, flat_map, list_any, list_all, AllByRecursion}
 use Rattle.std.specs.Option.{option_and_then, option_map_or}
 use Rattle.std.proofs.lemmas.Bool.{and_parts, leb-true}
 use Rattle.std.proofs.lemmas.Grind.{flat_map-append}
 use Rattle.std.proofs.lemmas.List.{map-append, length-map, take-append-drop, take_more}
-use Rattle.std.proofs.lemmas.List.Concat.{flat_map-cons}
 use Rattle.std.proofs.lemmas.List.Sums.{sum_by-cons}
 use Rattle.object_paths.specs.declared.slot_name.SlotName.TheVariants.{Plain}
 use Rattle.object_paths.specs.Slots.{Slot, same_text}
@@ -16,13 +15,15 @@ use Rattle.property_types.specs.SoundPlans.{is_property_name}
 use Rattle.document_model.specs.declared.content.Content.TheVariants.{Own}
 use Rattle.document_model.specs.declared.content.Content.{Content}
 use Rattle.document_model.specs.declared.kind.ObjectKind.TheVariants as kind
-use Rattle.document_model.specs.Document.{Object, Property, object_named}
-use Rattle.document_model.specs.Edited.{input_with, new_object, new_property, property_with, with_content, with_object}
-use Rattle.doc_tables.specs.Numbered.{Numbered, name_at, object_at, slot_at}
-use Rattle.doc_tables.specs.Primitives.{lacks_property, with_content_at, with_property_at, with_property_named}
+use Rattle.document_model.specs.Document.{Document, Object, Property, object_named}
+use Rattle.document_model.specs.Edited.{input_with, new_property, property_with}
+use Rattle.document_model.specs.Slots.{Row, rows, rows_by, rows_in_order, slot_of, slots}
+use Rattle.document_model.specs.TypedSlots.{property_slots}
+use Rattle.doc_tables.specs.Numbered.{Numbered, name_at, object_at}
+use Rattle.doc_tables.specs.Primitives.{lacks_property}
+use Rattle.doc_tables.specs.VarSets.{HoldsVarSets, IsVarSet}
 use Rattle.doc_tables.proofs.Finding.{same_text-refl}
-use Rattle.doc_tables.proofs.ListLemmas.{slice_get-seam}
-use Rattle.fcdoc_file.specs.Filled.{first_slots, first_numbered, with_first, with_float_at}
+use Rattle.fcdoc_file.specs.Filled.{with_first, with_float}
 use Rattle.fcdoc_file.specs.FirstDocument.{first_document, float_property, pure_number, var_set_object}
 use Rattle.fcdoc_file.specs.FirstForm.{FirstObject, FirstProperty, has_own_names, is_within_limits, stands_together}
 use Rattle.fcdoc_file.specs.Rows.{object_of, property_of}
@@ -68,74 +69,85 @@ floats-any : (name : List ℕ) (ps : List FirstProperty) → list_any (λ (q : P
 floats-any name [] = refl
 floats-any name (p ∷ ps) = ap (λ b. same_text p.name name || b) (floats-any name ps)
 
--- ---- tables with one more object
-pub bare-added : (t : Numbered) (name : List ℕ) → record t { document = with_object t.document (new_object name name kind.VarSet); objects = t.objects ++ Some name ∷ [] }
-    ≡ with_first t (record { name = name; properties = [] })
-bare-added t name = λ j. record { document = with_object t.document (new_object name name kind.VarSet); objects = t.objects ++ Some name ∷ []; slots = sym (append-nil t.slots) j }
+-- ---- a document with one more object
+module _ (d : Document) (o : FirstObject) (new : object_named d o.name ≡ None) where
+  pub lacks-last : (t : Numbered) (number : ℕ) → t.document ≡ with_first d o → name_at t number ≡ Some o.name → (name : List ℕ) → list_any (λ (q : FirstProperty). same_text q.name name) o.properties ≡ false → lacks_property t number name ≡ true
+  lacks-last t number is at name none =
+      let found : object_at t number ≡ Some (var_set_object o) =
+      (λ j. option_and_then (object_named (is j)) (at j)) ∙ last-found d.objects (var_set_object o) o.name (same_text-refl o.name) new
+      in
+      ap (λ (x : Option Object). option_map_or (λ (q : Object). not (list_any (λ (p : Property). same_text p.name name) q.dynamics)) x true) found
+      ∙ ap not (floats-any name o.properties ∙ none)
 
-module _ (t : Numbered) (o : FirstObject) where
-  pub name-last : name_at (with_first t o) (length t.objects) ≡ Some o.name
-  name-last = ap (option_and_then (λ x. x)) (slice_get-seam t.objects (Some o.name) [])
+  module _ (p : FirstProperty) (none : list_any (λ (q : FirstProperty). same_text q.name p.name) o.properties ≡ false) where
+    abbrev value : Content
+    value = Own (pure_number p.value)
 
-  module _ (new : object_named t.document o.name ≡ None) where
-    object-last : object_at (with_first t o) (length t.objects) ≡ Some (var_set_object o)
-    object-last =
-        ap (option_and_then (object_named (with_first t o).document)) name-last
-        ∙ last-found t.document.objects (var_set_object o) o.name (same_text-refl o.name) new
+    abbrev longer : FirstObject
+    longer = record { name = o.name; properties = o.properties ++ p ∷ [] }
 
-    pub lacks-last : (name : List ℕ) → list_any (λ (q : FirstProperty). same_text q.name name) o.properties ≡ false → lacks_property (with_first t o) (length t.objects) name ≡ true
-    lacks-last name none =
-        ap (λ (x : Option Object). option_map_or (λ (q : Object). not (list_any (λ (p : Property). same_text p.name name) q.dynamics)) x true) object-last
-        ∙ ap not (floats-any name o.properties ∙ none)
+    abbrev added : Object → Object
+    added q = record q { dynamics = q.dynamics ++ new_property p.name Float ∷ [] }
 
-    module _ (p : FirstProperty) (none : list_any (λ (q : FirstProperty). same_text q.name p.name) o.properties ≡ false) where
-      abbrev slot : Slot
-      slot = record { object = o.name; name = Plain p.name }
+    abbrev written : Object → Object
+    written q = record q { inputs = map (input_with (Plain p.name) value) q.inputs; dynamics = map (property_with (Plain p.name) value) q.dynamics }
 
-      abbrev value : Content
-      value = Own (pure_number p.value)
+    objects-grown : map (λ (q : Object). cond (same_text q.name o.name) (written q) q) (map (λ (q : Object). cond (same_text q.name o.name) (added q) q) (d.objects ++ var_set_object o ∷ []))
+        ≡ d.objects ++ var_set_object longer ∷ []
+    objects-grown =
+        ap (map (λ (q : Object). cond (same_text q.name o.name) (written q) q)) (last-changed d.objects (var_set_object o) o.name added (same_text-refl o.name) new)
+        ∙ last-changed d.objects (added (var_set_object o)) o.name written (same_text-refl o.name) new
+        ∙ ap (λ (ps : List Property). d.objects ++ record (var_set_object o) { dynamics = ps } ∷ []) (last-written o.properties p none)
 
-      abbrev longer : FirstObject
-      longer = record { name = o.name; properties = o.properties ++ p ∷ [] }
+    -- one more property of the object that stands last
+    pub float-last : with_float (with_first d o) o.name p ≡ with_first d longer
+    float-last = λ j. record d { objects = objects-grown j }
 
-      abbrev added : Object → Object
-      added q = record q { dynamics = q.dynamics ++ new_property p.name Float ∷ [] }
+-- ---- slots of documents of VarSets
+abbrev slots_by : Document → Object → List Slot
+slots_by d o = map (λ (r : Row). slot_of o r.name) (rows d o)
 
-      abbrev written : Object → Object
-      written q = record q { inputs = map (input_with (Plain p.name) value) q.inputs; dynamics = map (property_with (Plain p.name) value) q.dynamics }
+-- they hang on the object alone
+rows-own : (d e : Document) (os : List Object) → AllByRecursion IsVarSet os → flat_map (slots_by d) os ≡ flat_map (slots_by e) os
+rows-own d e [] h = refl
+rows-own d e (o ∷ os) h =
+    let kind_is : o.kind ≡ kind.VarSet = ap (λ (q : Object). q.kind) h.0.object in
+    λ j. map (λ (r : Row). slot_of o r.name) ((ap (rows_by d o) kind_is ∙ sym (ap (rows_by e o) kind_is)) j) ++ rows-own d e os h.1 j
 
-      abbrev grown : Numbered
-      grown = with_property_named (with_first t o) p.name Float o.name
+floats-rows : (ps : List FirstProperty) → length (flat_map (λ (p : Property). rows_in_order (property_slots p.name p.prop) p.contents) (map float_property ps)) ≡ length ps
+floats-rows [] = refl
+floats-rows (p ∷ ps) = ap suc (floats-rows ps)
 
-      objects-grown : map (λ (q : Object). cond (same_text q.name o.name) (written q) q) (map (λ (q : Object). cond (same_text q.name o.name) (added q) q) (t.document.objects ++ var_set_object o ∷ []))
-          ≡ t.document.objects ++ var_set_object longer ∷ []
-      objects-grown =
-          ap (map (λ (q : Object). cond (same_text q.name o.name) (written q) q)) (last-changed t.document.objects (var_set_object o) o.name added (same_text-refl o.name) new)
-          ∙ last-changed t.document.objects (added (var_set_object o)) o.name written (same_text-refl o.name) new
-          ∙ ap (λ (d : List Property). t.document.objects ++ record (var_set_object o) { dynamics = d } ∷ []) (last-written o.properties p none)
+length-first : (d : Document) (o : FirstObject) → length (slots_by d (var_set_object o)) ≡ length o.properties
+length-first d o =
+    let named : Row → Slot = λ r. slot_of (var_set_object o) r.name in
+    length-map (rows d (var_set_object o)) named ∙ floats-rows o.properties
 
-      slots-grown : (t.slots ++ first_slots o) ++ Some slot ∷ [] ≡ t.slots ++ first_slots longer
-      slots-grown =
-          append_assoc t.slots (first_slots o) (Some slot ∷ [])
-          ∙ ap (λ (l : List (Option Slot)). t.slots ++ l) (sym (map-append (λ (q : FirstProperty). Some (record { object = o.name; name = Plain q.name })) o.properties (p ∷ [])))
+pub slots-more : (d : Document) (o : FirstObject) → HoldsVarSets d → length (slots (with_first d o)) ≡ length (slots d) + length o.properties
+slots-more d o holds =
+    let e = with_first d o in
+    let q = var_set_object o in
+    let parts : slots e ≡ flat_map (slots_by d) d.objects ++ (slots_by e q ++ []) =
+    flat_map-append (slots_by e) d.objects (q ∷ []) ∙ ap (λ (l : List Slot). l ++ (slots_by e q ++ [])) (rows-own e d d.objects holds.objects)
+    in
+    omega (
+      arith,
+      ap length parts,
+      length-append (flat_map (slots_by d) d.objects) (slots_by e q ++ []),
+      ap length (append-nil (slots_by e q)),
+      length-first e o,
+    )
 
-      slot-last : slot_at grown (length (with_first t o).slots) ≡ Some slot
-      slot-last = ap (option_and_then (λ x. x)) (slice_get-seam (with_first t o).slots (Some slot) [])
-
-      -- one more property of the object that stands last
-      pub float-last : with_float_at (with_first t o) (length t.objects) p ≡ with_first t longer
-      float-last =
-          ap (λ (x : Option (List ℕ)). with_content_at (option_map_or (with_property_named (with_first t o) p.name Float) x (with_first t o)) (length (with_first t o).slots) value) name-last
-          ∙ ap (λ (x : Option Slot). option_map_or (λ (s : Slot). record grown { document = with_content grown.document s value }) x grown) slot-last
-          ∙ (λ j. record { document = record t.document { objects = objects-grown j }; objects = t.objects ++ Some o.name ∷ []; slots = slots-grown j })
-
--- the slot of a new property has the next number
-pub slot-added : (t : Numbered) (object : ℕ) (name : List ℕ) → IsSome (name_at t object) → IsSome (slot_at (with_property_at t object name Float) (length t.slots))
-slot-added t object name live = of (name_at t object) live
-  where
-    of : (x : Option (List ℕ)) → IsSome x → IsSome (slot_at (option_map_or (with_property_named t name Float) x t) (length t.slots))
-    of None no_ = absurd (cc)
-    of (Some owner) yes_ = rw (slice_get-seam t.slots (Some (record { object = owner; name = Plain name })) []) refl
+slots-all : (d : Document) (os : List FirstObject) → length (flat_map (slots_by d) (map var_set_object os)) ≡ sum_by (λ (q : FirstObject). length q.properties) os
+slots-all d [] = refl
+slots-all d (o ∷ os) =
+    omega (
+      arith,
+      length-append (slots_by d (var_set_object o)) (flat_map (slots_by d) (map var_set_object os)),
+      length-first d o,
+      slots-all d os,
+      sum_by-cons (λ (q : FirstObject). length q.properties) o os,
+    )
 
 -- ---- names that no earlier one is
 first_false : (a b : Bool) → (a || b) ≡ false → a ≡ false
@@ -187,28 +199,17 @@ module _ (ps : List FloatProperty) (i : ℕ) (x : FloatProperty) (below : i < le
       (ap are_distinct (property_names ps) ∙ distinct))
 
 -- ---- all objects
-numbered-more : (os : List FirstObject) (o : FirstObject) → with_first (first_numbered os) o ≡ first_numbered (os ++ o ∷ [])
-numbered-more os o =
-    let slots : flat_map first_slots (os ++ o ∷ []) ≡ flat_map first_slots os ++ first_slots o =
-    flat_map-append first_slots os (o ∷ []) ∙ ap (λ (l : List (Option Slot)). flat_map first_slots os ++ l) (flat_map-cons first_slots o [] ∙ append-nil (first_slots o))
-    in
-    sym (λ j. record {
-      document = record { objects = map-append var_set_object os (o ∷ []) j; attributes = []; before = []; between = []; after = [] };
-      objects = map-append (λ (q : FirstObject). Some q.name) os (o ∷ []) j;
-      slots = slots j;
-    })
+document-more : (os : List FirstObject) (o : FirstObject) → with_first (first_document os) o ≡ first_document (os ++ o ∷ [])
+document-more os o = λ j. record { objects = sym (map-append var_set_object os (o ∷ [])) j; attributes = []; before = []; between = []; after = [] }
 
-slots-before : (front : List FirstObject) (o : FirstObject) (back : List FirstObject) → length (flat_map first_slots front) + length o.properties ≤ sum_by (λ (q : FirstObject). length q.properties) (front ++ o ∷ back)
-slots-before [] o back = omega (arith, sum_by-cons (λ (q : FirstObject). length q.properties) o back)
-slots-before (q ∷ qs) o back =
-    let slot_of : FirstProperty → Option Slot = λ p. Some (record { object = q.name; name = Plain p.name }) in
+properties-before : (front : List FirstObject) (o : FirstObject) (back : List FirstObject) → sum_by (λ (q : FirstObject). length q.properties) front + length o.properties ≤ sum_by (λ (q : FirstObject). length q.properties) (front ++ o ∷ back)
+properties-before [] o back = omega (arith, sum_by-cons (λ (q : FirstObject). length q.properties) o back)
+properties-before (q ∷ qs) o back =
     omega (
       arith,
-      slots-before qs o back,
+      properties-before qs o back,
       sum_by-cons (λ (x : FirstObject). length x.properties) q (qs ++ o ∷ back),
-      ap length (flat_map-cons first_slots q qs),
-      length-append (first_slots q) (flat_map first_slots qs),
-      length-map q.properties slot_of,
+      sum_by-cons (λ (x : FirstObject). length x.properties) q qs,
     )
 
 all-at : {A : Type 0} (test : A → Bool) (front : List A) (x : A) (back : List A) → list_all test (front ++ x ∷ back) ≡ true → test x ≡ true
@@ -222,10 +223,10 @@ module _ (os : List VarSet) (i : ℕ) (x : VarSet) (below : i < length os) (is :
   abbrev back : List FirstObject
   back = map object_of (drop (i + 1) os)
 
-  pub objects-more : with_first (first_numbered front) (object_of x) ≡ first_numbered (map object_of (take (i + 1) os))
+  pub objects-more : with_first (first_document front) (object_of x) ≡ first_document (map object_of (take (i + 1) os))
   objects-more =
-      numbered-more front (object_of x)
-      ∙ ap first_numbered (sym (map-append object_of (take i os) (x ∷ [])) ∙ ap (map object_of) (sym (one-taken os i x below is)))
+      document-more front (object_of x)
+      ∙ ap first_document (sym (map-append object_of (take i os) (x ∷ [])) ∙ ap (map object_of) (sym (one-taken os i x below is)))
 
   split-objects : map object_of os ≡ front ++ object_of x ∷ back
   split-objects = ap (map object_of) (split-at os i x below is) ∙ map-append object_of (take i os) (x ∷ drop (i + 1) os)
@@ -254,13 +255,12 @@ module _ (os : List VarSet) (i : ℕ) (x : VarSet) (below : i < length os) (is :
         and_parts (leb (length (front ++ object_of x ∷ back)) 4096) (leb (sum_by (λ (o : FirstObject). length o.properties) (front ++ object_of x ∷ back)) 65536)
         (and_parts (are_distinct (map (λ (o : FirstObject). o.name) (front ++ object_of x ∷ back)) && list_all has_own_names (front ++ object_of x ∷ back)) (is_within_limits (front ++ object_of x ∷ back)) split-together).1
 
-    pub few-objects : length (first_numbered front).objects + 1 < 2 ^ 32
+    pub few-objects : length (map var_set_object front) + 1 < 2 ^ 32
     few-objects =
-        let named : FirstObject → Option (List ℕ) = λ o. Some o.name in
         let within : length (front ++ object_of x ∷ back) ≤ 4096 = leb-true (length (front ++ object_of x ∷ back)) 4096 limits.0 in
-        omega (arith, length-append front (object_of x ∷ back), length-map front named)
+        omega (arith, length-append front (object_of x ∷ back), length-map front var_set_object)
 
-    pub few-slots : length (first_numbered front).slots + length x.properties.items < 2 ^ 32
+    pub few-slots : length (slots (first_document front)) + length x.properties.items < 2 ^ 32
     few-slots =
         let within : sum_by (λ (o : FirstObject). length o.properties) (front ++ object_of x ∷ back) ≤ 65536 = leb-true (sum_by (λ (o : FirstObject). length o.properties) (front ++ object_of x ∷ back)) 65536 limits.1 in
-        omega (arith, slots-before front (object_of x) back, length-map x.properties.items property_of)
+        omega (arith, properties-before front (object_of x) back, slots-all (first_document front) front, length-map x.properties.items property_of)

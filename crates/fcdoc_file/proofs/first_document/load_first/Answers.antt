@@ -18,4 +18,4 @@ pub returns-clause-found : goal.returns-clause-found
 returns-clause-found c =
     document_of_some c.args.bytes.now c.in_ok-tables_of.field-0.document
     (ap (option_map first_document) c.in_ok-objects.ensures
-    ∙ (λ j. Some (first_document (map object_of (sym c.deref.ensures.value j)))) ∙ (λ j. Some (sym c.in_ok-tables_of.ensures j).document))
+    ∙ (λ j. Some (first_document (map object_of (sym c.deref.ensures.value j)))) ∙ ap Some (sym c.in_ok-tables_of.ensures))
