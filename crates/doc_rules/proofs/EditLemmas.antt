@@ -22,10 +22,13 @@ use Rattle.doc_rules.specs.declared.edit.Edit.{Edit}
 use Rattle.doc_rules.specs.declared.edit.Edit.TheVariants.{SetValue, Bind}
 use Rattle.doc_rules.specs.declared.refusal.Refusal.{Refusal}
 use Rattle.doc_rules.specs.Commanded.{refused, slot_there, slot_behind, slot_commanded, object_commanded}
-use Rattle.doc_tables.specs.Numbered.{Numbered}
+use Rattle.doc_tables.specs.Numbered.{Numbered, LeadsTo}
 use Rattle.doc_rules.specs.declared.edit_fault.EditFault.{EditFault}
+use Rattle.doc_rules.specs.declared.fault.CheckFault.TheVariants.{Doc}
+use Rattle.doc_rules.specs.declared.fault.DocFault.{DocFault}
+use Rattle.doc_rules.specs.Found.{MeetsFault}
 use Rattle.doc_rules.specs.declared.edit_fault.EditFault.TheVariants.{Refused, Memory}
-use Rattle.doc_rules.specs.Edits.{Accepted, Answers, Becomes, IsNamed, MeetsEdit, accepted, accepted_by, bound_to, edited, refusal_of_fault, refusal_of_sort, refusal_of_text, set_to, value_fitted, value_given, value_read, value_sorted}
+use Rattle.doc_rules.specs.Edits.{Accepted, Answers, Becomes, IsNamed, MeetsEdit, accepted, accepted_by, bound_to, edited, fault_told, refusal_of_fault, refusal_of_sort, refusal_of_text, set_to, value_fitted, value_given, value_read, value_sorted}
 use Rattle.doc_rules.specs.Refusals.{is_refusal_number}
 
 -- ---- faults
@@ -192,3 +195,19 @@ pub becomes-valued : (t : Numbered) (g : Value → Result Accepted Refusal) (fou
     → Answers {A = Value} found (Ok v) → Becomes t (g v) result → Becomes t (on_one g found) result
 becomes-valued t g (Ok w) v result h b = let P : Value → Type 0 = λ x. Becomes t (g x) result in subst P h b
 becomes-valued t g (Err first) v result h b = absurd h
+
+-- ---- edited tables that are checked
+accepted-edited : (v w : Numbered) (d : Document) (result : Result Numbered EditFault) → LeadsTo v w d → Becomes v (accepted_by w.document (first_fault w.document)) result → Becomes v (accepted d) result
+accepted-edited v w d result leads h =
+    let P : Document → Type 0 = λ x. Becomes v (accepted_by x (first_fault x)) result in
+    subst P leads.document h
+
+-- with a fault they are refused
+pub checked-fault : (v w : Numbered) (d : Document) (told : DocFault) (fault : EditFault) → LeadsTo v w d → MeetsFault (first_fault w.document) (Err (Doc told))
+    → Answers {A = Document} (Err (refusal_of_fault (fault_told told))) (Err fault) → Becomes v (accepted d) (Err fault)
+checked-fault v w d told fault leads h answer = accepted-edited v w d (Err fault) leads (by (first_fault w.document) fault h answer)
+  where
+    by : (found : Option Fault) (fault : EditFault) → MeetsFault found (Err (Doc told)) → Answers {A = Document} (Err (refusal_of_fault (fault_told told))) (Err fault) → Becomes v (accepted_by w.document found) (Err fault)
+    by None fault h answer = absurd h
+    by (Some f) (Refused r) h answer = answer ∙ (λ j. refusal_of_fault (record { number = sym h.number j; subject = sym h.subject j }))
+    by (Some f) (Memory e) h answer = tt

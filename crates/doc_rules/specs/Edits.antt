@@ -1,7 +1,6 @@
 -- What an edit makes of a document.
 use Rattle.std.specs.Prelude.{◌≡◌, ℕ, Bool, List, [], ◌∷◌, Option, Some, None, Result, Ok, Err, IsTrue}
 use Rattle.fc_base.specs.declared.ids.SlotId.{SlotId}
-use Rattle.fc_base.specs.Graph.{IsIn}
 use Rattle.object_paths.specs.Slots.{Slot}
 use Rattle.property_types.specs.declared.prop_type.Sort.{Sort}
 use Rattle.property_types.specs.declared.value.Value.{Value}
@@ -20,12 +19,12 @@ use Rattle.expr_eval.specs.Sorts.{SortReading, sort_of}
 use Rattle.document_model.specs.declared.content.Content.TheVariants.{Own, Bound}
 use Rattle.document_model.specs.Document.{Document}
 use Rattle.document_model.specs.Edited.{with_content}
-use Rattle.document_model.specs.Slots.{slots, type_of}
+use Rattle.document_model.specs.Slots.{type_of}
 use Rattle.document_outcomes.specs.Faults.{Fault, first_fault, number_of_cause}
 use Rattle.document_outcomes.specs.Full.{Meanings, fitted, full}
 use Rattle.document_outcomes.specs.RefusalNumbers.{out_of_range, expr_syntax}
 use Rattle.document_outcomes.specs.Sorts.{bound_sort}
-use Rattle.doc_tables.specs.Numbered.{Numbered, slot_at}
+use Rattle.doc_tables.specs.Numbered.{Numbered, Keeps, slot_at}
 use Rattle.doc_rules.specs.declared.edit.Edit.{Edit}
 use Rattle.doc_rules.specs.declared.edit.Edit.TheVariants.{SetValue, Bind}
 use Rattle.doc_rules.specs.declared.edit_fault.EditFault.{EditFault}
@@ -134,14 +133,9 @@ Answers (Err r) (Ok told) = ⊥
 Answers (Err r) (Err (Refused told)) = told ≡ r
 Answers found (Err (Memory e)) = Unit {0}
 
--- slots that stay keep their numbers
-abbrev pub KeepsNumbers : Numbered → Numbered → Type 0
-KeepsNumbers before after =
-    (n : ℕ) (s : Slot) → slot_at before n ≡ Some s → IsIn s (slots after.document) → slot_at after n ≡ Some s
-
--- the tables of the edited document, in which slots that stay keep their numbers, or the refusal
+-- the tables of the edited document, in which what stays keeps its number, or the refusal
 abbrev pub Becomes : Numbered → Result Accepted Refusal → Result Numbered EditFault → Type 0
-Becomes before (Ok a) (Ok after) = (after.document ≡ a.document) × KeepsNumbers before after
+Becomes before (Ok a) (Ok after) = (after.document ≡ a.document) × Keeps before after
 Becomes before (Ok a) (Err (Refused told)) = ⊥
 Becomes before (Err r) (Ok after) = ⊥
 Becomes before (Err r) (Err (Refused told)) = told ≡ r
@@ -150,7 +144,7 @@ Becomes before found (Err (Memory e)) = Unit {0}
 -- The edited document stands in the tables, and the count is told; or the edit is refused, or there
 -- was no memory, and the tables are as they were.
 abbrev pub MeetsEdit : Numbered → Numbered → Result Accepted Refusal → Result ℕ EditFault → Type 0
-MeetsEdit before after (Ok a) (Ok count) = (after.document ≡ a.document) × KeepsNumbers before after × (count ≡ a.references)
+MeetsEdit before after (Ok a) (Ok count) = (after.document ≡ a.document) × Keeps before after × (count ≡ a.references)
 MeetsEdit before after (Ok a) (Err (Refused told)) = ⊥
 MeetsEdit before after (Err r) (Ok count) = ⊥
 MeetsEdit before after (Err r) (Err (Refused told)) = (told ≡ r) × (after ≡ before)

@@ -12,8 +12,8 @@ ghost use Rattle.document_outcomes.specs.Faults.{IsValid};
 ghost use Rattle.document_outcomes.specs.Full.{fitted};
 ghost use Rattle.document_outcomes.specs.Typed.{no_features};
 ghost use Rattle.doc_tables.specs.Entries.{HasFewReferences};
-ghost use Rattle.doc_tables.specs.Numbered.{slot_at};
-ghost use Rattle.doc_tables.specs.Primitives.{with_content_at};
+ghost use Rattle.doc_tables.specs.Numbered.{LeadsTo, slot_at};
+ghost use Rattle.doc_tables.specs.Primitives.{IsContentAt};
 ghost use Rattle.doc_rules.specs.Edits.{Answers, Becomes, HasFullOutcomes, IsNamed, MeetsEdit, accepted, bound_to, edited, fault_told, no_outcomes, no_sorts, refusal_of_fault, set_to, value_fitted, value_given, value_read};
 ghost use Rattle.doc_rules.specs.declared.edit_fault.EditFault.TheVariants.{Refused};
 ghost use Rattle.doc_rules.specs.declared.refusal.Refusal.{Refusal};
@@ -55,7 +55,8 @@ fn with_content(
 ) -> Result<Tables, AllocError>
     requires live { IsSome (slot_at tables.now slot.0) }
     requires references { HasFewReferences content }
-    ensures { IfOk result (λ edited. edited ≡ with_content_at tables.now slot.0 content) }
+    ensures { IfOk result (λ edited. (s : Slot) → slot_at tables.now slot.0 ≡ Some s
+        → LeadsTo tables.now edited (with_content tables.now.document s content)) }
 {
     let mut edited = tables.copy(alloc)?;
     edited.set_rule(slot, content)?;
