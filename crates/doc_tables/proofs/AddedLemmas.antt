@@ -15,7 +15,7 @@ use Rattle.document_model.specs.declared.kind.ObjectKind.TheVariants.{VarSet}
 use Rattle.document_model.specs.Document.{Document, Object, Property, object_named}
 use Rattle.document_model.specs.Edited.{input_with, new_property, property_with, with_content, with_property}
 use Rattle.document_model.specs.Resolution.{slot_in}
-use Rattle.document_model.specs.Slots.{Row, dynamic_rows, row_in, row_with, rows_by, rows_in_order, slot_of}
+use Rattle.document_model.specs.Slots.{Row, dynamic_rows, row_in, row_with, rows, rows_by, rows_in_order, slot_of, type_of}
 use Rattle.document_model.specs.TypedSlots.{property_slots}
 use Rattle.document_model.proofs.Members.{from_find}
 use Rattle.doc_tables.specs.Accessors.{IsNumberOf}
@@ -65,6 +65,20 @@ module _ (name : List ℕ) (type : PropType) (one : type ≢ prop.Placement) whe
       → option_map (λ (r : Row). r.name) (cond b (Some (row_with (Some (all.0).content) (Plain p.name, p.prop))) (find is_it (flat_map rows_of (ps ++ new_property name type ∷ [])))) ≡ Some (Plain name)) [
         | true ↦ λ e. absurd (cc)
         | false ↦ λ e. last-row ps all.1 e
+      ] none)
+
+  -- and its type
+  last-type : (ps : List Property) → AllByRecursion HasOneSlot ps → list_any (λ (p : Property). same_text p.name name) ps ≡ false
+      → option_and_then (λ (r : Row). r.prop) (find is_it (flat_map rows_of (ps ++ new_property name type ∷ []))) ≡ Some type
+  last-type [] all none =
+      ap (λ (l : List (SlotName × PropType)). option_and_then (λ (r : Row). r.prop) (find is_it (rows_in_order l (map (λ (slot : SlotName × PropType). Own (zero_value slot.1)) l) ++ []))) (one_slot name type one)
+      ∙ ap (λ b. option_and_then (λ (r : Row). r.prop) (cond b (Some (row_with (Some (Own (zero_value type))) (Plain name, type))) None)) (same_text-refl name)
+  last-type (p ∷ ps) all none =
+      ap (λ (l : List Row). option_and_then (λ (r : Row). r.prop) (find is_it (l ++ flat_map rows_of (ps ++ new_property name type ∷ [])))) (rows-one p all.0)
+      ∙ (elim (same_text p.name name) as (λ b. (b || list_any (λ (q : Property). same_text q.name name) ps) ≡ false
+      → option_and_then (λ (r : Row). r.prop) (cond b (Some (row_with (Some (all.0).content) (Plain p.name, p.prop))) (find is_it (flat_map rows_of (ps ++ new_property name type ∷ [])))) ≡ Some type) [
+        | true ↦ λ e. absurd (cc)
+        | false ↦ λ e. last-type ps all.1 e
       ] none)
 
   abbrev longer : Object → Object
@@ -123,6 +137,13 @@ module _ (v w : Numbered) (number : ℕ) (owner name : List ℕ) (type : PropTyp
       ap (option_and_then (λ (o : Object). slot_in w.document o (Plain name))) (ap (option_and_then (object_named w.document)) number-kept ∙ named-after)
       ∙ slot-in_longer name type one w.document q (ap (λ (o : Object). o.kind) set.object) set.properties none
       ∙ (λ j. Some (record { object = own-name j; name = Plain name }))
+
+  -- the new slot has the type of the property
+  pub new-typed : type_of w.document (record { object = owner; name = Plain name }) ≡ Some type
+  new-typed =
+      ap (λ (x : Option Object). option_and_then (λ (r : Row). r.prop) (option_and_then (λ (o : Object). row_in (rows w.document o) (Plain name)) x)) named-after
+      ∙ ap (λ (rs : List Row). option_and_then (λ (r : Row). r.prop) (row_in rs (Plain name))) (ap (rows_by w.document (longer name type one q)) (ap (λ (o : Object). o.kind) set.object))
+      ∙ last-type name type one q.dynamics set.properties none
 
   -- and its new slot has one
   pub slot-some : (id : Option SlotId) → IsNumberOf w id (option_and_then (λ (o : Object). slot_in w.document o (Plain name)) (object_at w number)) → IsSome id

@@ -1,10 +1,11 @@
 -- Documents that are filled object by object, and property by property.
-use Rattle.std.proofs.Common.{◌≡◌, ◌+◌, ◌≤◌, ◌<◌, ◌^◌, ◌&&◌, ◌||◌, ℕ, suc, Bool, true, false, not, cond, leb, List, [], ◌∷◌, ◌++◌, map, length, take, drop, get_or, sum_by, Option, Some, None, refl, sym, ap, subst, ◌∙◌, append-nil, length-append, arith}
+use Rattle.std.proofs.Common.{◌≡◌, ◌+◌, ◌≤◌, ◌<◌, ◌^◌, ◌&&◌, ◌||◌, ℕ, zero, suc, Bool, true, false, not, cond, leb, List, [], ◌∷◌, ◌++◌, map, length, take, drop, get_or, sum_by, Option, Some, None, refl, sym, ap, subst, ◌∙◌, append-nil, length-append, arith}
 use Rattle.std.specs.List.{find, flat_map, list_any, list_all, AllByRecursion}
 use Rattle.std.specs.Option.{option_and_then, option_map_or}
 use Rattle.std.proofs.lemmas.Bool.{and_parts, leb-true}
 use Rattle.std.proofs.lemmas.Grind.{flat_map-append}
 use Rattle.std.proofs.lemmas.List.{map-append, length-map, take-append-drop, take_more}
+use Rattle.std.proofs.lemmas.List.Folds.{list_all-map}
 use Rattle.std.proofs.lemmas.List.Sums.{sum_by-cons}
 use Rattle.object_paths.specs.declared.slot_name.SlotName.TheVariants.{Plain}
 use Rattle.object_paths.specs.Slots.{Slot, same_text}
@@ -70,6 +71,12 @@ floats-any name [] = refl
 floats-any name (p ∷ ps) = ap (λ b. same_text p.name name || b) (floats-any name ps)
 
 -- ---- a document with one more object
+-- what each passes, the one at a place passes
+pub all-item : {A : Type 0} (p : A → Bool) (xs : List A) (k : ℕ) (x : A) → k < length xs → x ≡ get_or xs k x → list_all p xs ≡ true → p x ≡ true
+all-item p [] k x below is all = absurd (omega arith)
+all-item p (y ∷ ys) zero x below is all = ap p is ∙ (and_parts (p y) (list_all p ys) all).0
+all-item p (y ∷ ys) (suc k) x below is all = all-item p ys k x (omega arith) is (and_parts (p y) (list_all p ys) all).1
+
 module _ (d : Document) (o : FirstObject) (new : object_named d o.name ≡ None) where
   pub lacks-last : (t : Numbered) (number : ℕ) → t.document ≡ with_first d o → name_at t number ≡ Some o.name → (name : List ℕ) → list_any (λ (q : FirstProperty). same_text q.name name) o.properties ≡ false → lacks_property t number name ≡ true
   lacks-last t number is at name none =
@@ -249,6 +256,12 @@ module _ (os : List VarSet) (i : ℕ) (x : VarSet) (below : i < length os) (is :
         let own = all-at has_own_names front (object_of x) back (and_parts (are_distinct (map (λ (o : FirstObject). o.name) (front ++ object_of x ∷ back))) (list_all has_own_names (front ++ object_of x ∷ back)) names-and-own).1 in
         ap are_distinct (sym (property_names x.properties.items))
         ∙ (and_parts (are_distinct (map (λ (p : FirstProperty). p.name) (map property_of x.properties.items))) (list_all (λ (p : FirstProperty). is_property_name p.name) (map property_of x.properties.items)) own).0
+
+    pub properties-named : list_all (λ (p : FloatProperty). is_property_name p.name) x.properties.items ≡ true
+    properties-named =
+        let own = all-at has_own_names front (object_of x) back (and_parts (are_distinct (map (λ (o : FirstObject). o.name) (front ++ object_of x ∷ back))) (list_all has_own_names (front ++ object_of x ∷ back)) names-and-own).1 in
+        sym (list_all-map (λ (p : FirstProperty). is_property_name p.name) property_of x.properties.items)
+        ∙ (and_parts (are_distinct (map (λ (p : FirstProperty). p.name) (map property_of x.properties.items))) (list_all (λ (p : FirstProperty). is_property_name p.name) (map property_of x.properties.items)) own).1
 
     limits : (leb (length (front ++ object_of x ∷ back)) 4096 ≡ true) × (leb (sum_by (λ (o : FirstObject). length o.properties) (front ++ object_of x ∷ back)) 65536 ≡ true)
     limits =

@@ -3,10 +3,12 @@
 ghost use Rattle.std.specs.Prelude.{◌≡◌, ◌+◌, ◌<◌, ◌^◌, ℕ, List, length, map, IfOk, IsSome, IsTrue, None, OnOk, Some};
 ghost use Rattle.object_paths.specs.declared.slot_name.SlotName.TheVariants.{Plain};
 ghost use Rattle.property_types.specs.declared.prop_type.PropType.TheVariants.{Float};
+ghost use Rattle.std.specs.List.{list_all};
 ghost use Rattle.property_types.specs.Reserved.{are_distinct};
+ghost use Rattle.property_types.specs.SoundPlans.{is_property_name};
 ghost use Rattle.document_model.specs.Document.{object_named};
 ghost use Rattle.document_model.specs.Edited.{new_property, with_property};
-ghost use Rattle.document_model.specs.Slots.{slots};
+ghost use Rattle.document_model.specs.Slots.{slots, type_of};
 ghost use Rattle.doc_tables.specs.Numbered.{name_at, slot_at};
 ghost use Rattle.doc_tables.specs.Primitives.{lacks_property};
 ghost use Rattle.fcdoc_file.specs.Filled.{with_first, with_float};
@@ -32,6 +34,7 @@ fn add_slot(
     slot: &SlotName,
 ) -> Result<SlotId, AllocError>
     requires same { slot.now ≡ Plain name }
+    requires named { IsTrue (is_property_name name) }
     requires live { IsSome (name_at tables.old object.0) }
     requires new_name { IsTrue (lacks_property tables.old object.0 name) }
     requires few { length (slots tables.old.document) + 1 < 2 ^ 32 }
@@ -40,6 +43,8 @@ fn add_slot(
     ensures number { OnOk result ((o : List ℕ) → name_at tables.old object.0 ≡ Some o → name_at tables.new object.0 ≡ Some o) }
     ensures slot { IfOk result (λ id. (o : List ℕ) → name_at tables.old object.0 ≡ Some o
         → slot_at tables.new id.0 ≡ Some (record { object = o; name = Plain name })) }
+    ensures typed { OnOk result ((o : List ℕ) → name_at tables.old object.0 ≡ Some o
+        → type_of tables.new.document (record { object = o; name = Plain name }) ≡ Some Float) }
 {
     tables.holds_var_sets(); // for the proof
     tables.is_numbered(); // for the proof
@@ -54,6 +59,7 @@ fn add_property(
     object: ObjectId,
     property: &FloatProperty,
 ) -> Result<(), AllocError>
+    requires named { IsTrue (is_property_name property.now.name) }
     requires live { IsSome (name_at tables.old object.0) }
     requires new_name { IsTrue (lacks_property tables.old object.0 property.now.name) }
     requires few { length (slots tables.old.document) + 1 < 2 ^ 32 }
@@ -65,6 +71,7 @@ fn add_property(
     let name = property.name.copy(alloc)?;
     let slot = add_slot(tables, object, name, &path)?;
     tables.is_numbered(); // for the proof
+    let _ = property.value.raw(); // for the proof
     let value = Value::Number(Quantity {
         amount: property.value,
         unit: Unit::pure(),
@@ -76,6 +83,7 @@ fn add_property(
 fn add_object(alloc: Global, tables: &mut Tables, object: &VarSet) -> Result<(), AllocError>
     requires new_name { object_named tables.old.document object.now.name ≡ None }
     requires distinct { IsTrue (are_distinct (map (λ p. p.name) object.now.properties.items)) }
+    requires named { IsTrue (list_all (λ p. is_property_name p.name) object.now.properties.items) }
     requires few_objects { length tables.old.document.objects + 1 < 2 ^ 32 }
     requires few_slots { length (slots tables.old.document) + length object.now.properties.items < 2 ^ 32 }
     ensures { OnOk result (tables.new.document ≡ with_first tables.old.document (object_of object.now)) }

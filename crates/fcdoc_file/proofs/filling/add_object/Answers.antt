@@ -5,7 +5,9 @@ use Rattle.document_model.specs.Slots.{slots}
 use Rattle.fcdoc_file.specs.Filled.{with_first, with_float}
 use Rattle.fcdoc_file.specs.FirstForm.{FirstObject, FirstProperty}
 use Rattle.fcdoc_file.specs.Rows.{property_of}
-use Rattle.fcdoc_file.proofs.FillingLemmas.{lacks-last, float-last, property-new, properties-more, slots-more}
+use Rattle.fcdoc_file.specs.declared.var_set.FloatProperty.{FloatProperty}
+use Rattle.property_types.specs.SoundPlans.{is_property_name}
+use Rattle.fcdoc_file.proofs.FillingLemmas.{all-item, lacks-last, float-last, property-new, properties-more, slots-more}
 use Rattle.fcdoc_file.proofs.filling.add_object.Goals as goal
 
 pub add_property-requires-clause-live : goal.add_property-requires-clause-live
@@ -49,3 +51,10 @@ loop-property-preserved c =
           (properties-more c.args.object.now.properties.items c.loop-property.property-index x below is);
       number = c.in_ok-add_property.ensures.number c.args.object.now.name c.loop-property.invariant.number;
     }
+
+pub add_property-requires-clause-named : goal.add_property-requires-clause-named
+add_property-requires-clause-named c =
+    let x = c.property-item.result in
+    let below = rw c.deref-property-items.ensures.value at c.loop-property-test.true in
+    let is = rw c.deref-property-items.ensures.value at c.property-item.is in
+    all-item (λ (p : FloatProperty). is_property_name p.name) c.args.object.now.properties.items c.loop-property.property-index x below is c.requires.named

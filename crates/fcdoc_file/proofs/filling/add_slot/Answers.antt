@@ -1,4 +1,7 @@
-use Rattle.std.proofs.Common.{◌≡◌, ◌≢◌, List, ℕ, Option, Some, is_some, ap, subst}
+use Rattle.std.proofs.Common.{◌≡◌, ◌≢◌, Bool, ◌&&◌, ◌||◌, not, List, ℕ, Option, Some, is_some, ap, subst}
+use Rattle.fc_base.specs.Places.{looks_like_address}
+use Rattle.document_model.specs.declared.kind.ObjectKind.TheVariants.{VarSet}
+use Rattle.document_model.specs.Kinds.{is_sheet}
 use Rattle.fc_base.specs.declared.ids.SlotId.{SlotId}
 use Rattle.object_paths.specs.declared.slot_name.SlotName.{SlotName}
 use Rattle.object_paths.specs.declared.slot_name.SlotName.TheVariants.{Plain}
@@ -8,7 +11,7 @@ use Rattle.document_model.specs.Resolution.{slot_in}
 use Rattle.std.specs.Option.{option_and_then}
 use Rattle.doc_tables.specs.Accessors.{IsNumberOf}
 use Rattle.doc_tables.specs.Numbered.{name_at, object_at}
-use Rattle.doc_tables.proofs.AddedLemmas.{number-kept, slot-numbered, slot-some}
+use Rattle.doc_tables.proofs.AddedLemmas.{new-typed, number-kept, slot-numbered, slot-some}
 use Rattle.doc_tables.proofs.TableLemmas.{some_of}
 use Rattle.fcdoc_file.proofs.filling.add_slot.Goals as goal
 
@@ -42,3 +45,10 @@ returns-clause-slot c = λ o at.
     slot-numbered c.args.tables.now w c.args.object.0 o c.args.name Float c.is_numbered.ensures c.holds_var_sets.ensures not_placed at c.requires.new_name (c.in_ok-add_property.ensures.added o at) c.unwrap.result
     (subst (λ (id : Option SlotId). IsNumberOf w id (option_and_then (λ (x : Object). slot_in w.document x (Plain c.args.name)) (object_at w c.args.object.0))) c.unwrap.ensures
     (subst (λ (k : SlotName). IsNumberOf w c.slot_of.result (option_and_then (λ (x : Object). slot_in w.document x k) (object_at w c.args.object.0))) c.requires.same c.slot_of.ensures))
+
+pub add_property-requires-clause-name : goal.add_property-requires-clause-name
+add_property-requires-clause-name c = ap (λ (b : Bool). b && (not (is_sheet VarSet) || not (looks_like_address c.args.name))) c.requires.named
+
+pub returns-clause-typed : goal.returns-clause-typed
+returns-clause-typed c = λ o at.
+    new-typed c.args.tables.now c.add_property.new.self c.args.object.0 o c.args.name Float c.is_numbered.ensures c.holds_var_sets.ensures not_placed at c.requires.new_name (c.in_ok-add_property.ensures.added o at)

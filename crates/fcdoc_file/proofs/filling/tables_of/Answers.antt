@@ -3,7 +3,7 @@ use Rattle.document_model.specs.Document.{Document}
 use Rattle.document_model.specs.Slots.{slots}
 use Rattle.fcdoc_file.specs.Filled.{with_first}
 use Rattle.fcdoc_file.specs.Rows.{object_of}
-use Rattle.fcdoc_file.proofs.FillingLemmas.{object-new, objects-more, properties-distinct, few-objects, few-slots}
+use Rattle.fcdoc_file.proofs.FillingLemmas.{object-new, objects-more, properties-distinct, properties-named, few-objects, few-slots}
 use Rattle.fcdoc_file.proofs.filling.tables_of.Goals as goal
 
 pub add_object-requires-clause-new_name : goal.add_object-requires-clause-new_name
@@ -27,3 +27,7 @@ loop-object-preserved c =
     c.in_ok-add_object.ensures
     ∙ ap (λ (d : Document). with_first d (object_of c.object-item.result)) c.loop-object.invariant
     ∙ objects-more c.args.objects.now c.loop-object.object-index c.object-item.result c.loop-object-test.true c.object-item.is
+
+pub add_object-requires-clause-named : goal.add_object-requires-clause-named
+add_object-requires-clause-named c =
+    properties-named c.args.objects.now c.loop-object.object-index c.object-item.result c.loop-object-test.true c.object-item.is c.requires
