@@ -5,6 +5,7 @@ use Rattle.std.proofs.KnownBytes.{Keeps-refl}
 use Rattle.std.specs.Io.KnownBytes.{Appends}
 use Rattle.std.specs.FinMap.{get}
 use Rattle.fc_base.specs.Devices.{Held}
+use Rattle.property_types.specs.Plans.{Slots}
 use Rattle.document_outcomes.specs.Full.{Meanings}
 use Rattle.document_outcomes.specs.Typed.{no_features}
 use Rattle.fcdoc_core.proofs.DeliveryLemmas.{appends_nothing}
@@ -46,7 +47,7 @@ pub longer : (limit : ℕ) → Longer limit
 longer limit = record { bytes = zeros (suc limit); beyond = rw (zeros_length (suc limit)) (omega arith) }
 
 pub script_found : (name bytes : List ℕ) (s : State) (result : Result Plan Stop) → length bytes ≤ most_bytes
-    → IfOk result (λ plan. top_of_plan plan ≡ top_of_lines no_features s (script_of bytes))
+    → IfOk result (λ plan. top_of_plan plan ≡ top_of_lines [] no_features s (script_of bytes))
     → IfOk result (MeansScript name (Ok s))
 script_found name bytes s (Ok plan) within is = record { script = Some bytes; means = rw (le-leb (length bytes) most_bytes within) (sym is) }
 script_found name bytes s (Err stop) within is = tt
@@ -55,39 +56,39 @@ pub long_script : (name : List ℕ) (s : State) → MeansScript name (Ok s) Scri
 long_script name s = record { script = Some (longer most_bytes).bytes; means = rw (lt-leb (length (longer most_bytes).bytes) most_bytes (longer most_bytes).beyond) refl }
 
 -- a document that is not opened has the line of its fault, whatever stands under the script's name
-unopened_line : (u : Result State Unopened) (fault : OpenFault) → Opens u (Err fault) → HasLine fault → (m : Meanings) (name : List ℕ) (found : Option (List ℕ))
-    → top_of_state m name found u ≡ one_piece DocumentRefused (open_fault_text fault)
-unopened_line (Ok s) NotBuilt o h m name found = absurd o
-unopened_line (Ok s) (Load told) o h m name found = absurd o
-unopened_line (Ok s) (Doc told) o h m name found = absurd o
-unopened_line (Ok s) (opening.Memory e) o h m name found = absurd h
-unopened_line (Err (unloaded not_built)) NotBuilt o h m name found = refl
-unopened_line (Err (unloaded not_built)) (Load told) o h m name found = absurd o
-unopened_line (Err (unloaded not_built)) (Doc told) o h m name found = absurd o
-unopened_line (Err (unloaded not_built)) (opening.Memory e) o h m name found = absurd h
-unopened_line (Err (unloaded (malformed f))) NotBuilt o h m name found = absurd o
-unopened_line (Err (unloaded (malformed f))) (Load told) o h m name found = ap (λ x. one_piece DocumentRefused (unopened_text (unloaded (malformed x)))) (sym o)
-unopened_line (Err (unloaded (malformed f))) (Doc told) o h m name found = absurd o
-unopened_line (Err (unloaded (malformed f))) (opening.Memory e) o h m name found = absurd h
-unopened_line (Err (faulty f)) NotBuilt o h m name found = absurd o
-unopened_line (Err (faulty f)) (Load told) o h m name found = absurd o
-unopened_line (Err (faulty f)) (Doc told) o h m name found =
+unopened_line : (u : Result State Unopened) (fault : OpenFault) → Opens u (Err fault) → HasLine fault → (plans : List Slots) (m : Meanings) (name : List ℕ) (found : Option (List ℕ))
+    → top_of_state plans m name found u ≡ one_piece DocumentRefused (open_fault_text fault)
+unopened_line (Ok s) NotBuilt o h plans m name found = absurd o
+unopened_line (Ok s) (Load told) o h plans m name found = absurd o
+unopened_line (Ok s) (Doc told) o h plans m name found = absurd o
+unopened_line (Ok s) (opening.Memory e) o h plans m name found = absurd h
+unopened_line (Err (unloaded not_built)) NotBuilt o h plans m name found = refl
+unopened_line (Err (unloaded not_built)) (Load told) o h plans m name found = absurd o
+unopened_line (Err (unloaded not_built)) (Doc told) o h plans m name found = absurd o
+unopened_line (Err (unloaded not_built)) (opening.Memory e) o h plans m name found = absurd h
+unopened_line (Err (unloaded (malformed f))) NotBuilt o h plans m name found = absurd o
+unopened_line (Err (unloaded (malformed f))) (Load told) o h plans m name found = ap (λ x. one_piece DocumentRefused (unopened_text (unloaded (malformed x)))) (sym o)
+unopened_line (Err (unloaded (malformed f))) (Doc told) o h plans m name found = absurd o
+unopened_line (Err (unloaded (malformed f))) (opening.Memory e) o h plans m name found = absurd h
+unopened_line (Err (faulty f)) NotBuilt o h plans m name found = absurd o
+unopened_line (Err (faulty f)) (Load told) o h plans m name found = absurd o
+unopened_line (Err (faulty f)) (Doc told) o h plans m name found =
     ap (λ n. one_piece DocumentRefused (unopened_text (faulty (record { number = n; subject = f.subject })))) o.number
     ∙ ap (λ s. one_piece DocumentRefused (unopened_text (faulty (record { number = told.number; subject = s })))) o.subject
-unopened_line (Err (faulty f)) (opening.Memory e) o h m name found = absurd h
+unopened_line (Err (faulty f)) (opening.Memory e) o h plans m name found = absurd h
 
 pub refused_told : (known : Option Held) (name : List ℕ) (u : Result State Unopened) (fault : OpenFault) (result : Result Plan Stop) → Opens u (Err fault) → HasLine fault
     → IfOk result (λ plan. top_of_plan plan ≡ one_piece DocumentRefused (open_fault_text fault))
-    → IfOk result (Means known (λ held. top_of_state no_features name (get held name) u))
+    → IfOk result (Means known (λ held. top_of_state [] no_features name (get held name) u))
 refused_told known name u fault (Err stop) o h is = tt
 refused_told None name u fault (Ok plan) o h is = tt
-refused_told (Some held) name u fault (Ok plan) o h is = unopened_line u fault o h no_features name (get held name) ∙ sym is
+refused_told (Some held) name u fault (Ok plan) o h is = unopened_line u fault o h [] no_features name (get held name) ∙ sym is
 
 pub refused_means : (name : List ℕ) (u : Result State Unopened) (fault : OpenFault) (result : Result Plan Stop) → Opens u (Err fault) → HasLine fault
     → IfOk result (λ plan. top_of_plan plan ≡ one_piece DocumentRefused (open_fault_text fault))
     → IfOk result (MeansScript name u)
 refused_means name u fault (Err stop) o h is = tt
-refused_means name u fault (Ok plan) o h is = record { script = None; means = unopened_line u fault o h no_features name None ∙ sym is }
+refused_means name u fault (Ok plan) o h is = record { script = None; means = unopened_line u fault o h [] no_features name None ∙ sym is }
 
 pub document_found : (names : Names) (bytes : List ℕ) (result : Result Plan Stop) → length bytes ≤ most_bytes
     → IfOk result (MeansScript names.script (opened_of bytes))
@@ -110,7 +111,7 @@ document_missing names (Err stop) is = tt
 -- files for which the plan of these words is the meaning; of words without names all files are
 pub record HasFiles (names : Option Names) (plan : Plan) : Type 0 where
   pub files : Files
-  pub means : top_of_files no_features names files ≡ top_of_plan plan
+  pub means : top_of_files [] no_features names files ≡ top_of_plan plan
 
 has_files : (names : Option Names) (plan : Plan) → MeansFiles names plan → HasFiles names plan
 has_files None plan m = record { files = record { document = None; script = None }; means = m }

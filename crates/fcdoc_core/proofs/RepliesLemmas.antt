@@ -1,5 +1,5 @@
 -- Replying line by line gives the replies to all lines that are not skipped.
-use Rattle.std.proofs.Common.{◌≡◌, ℕ, suc, ◌+◌, ◌<◌, ◌≤◌, Bool, true, false, cond, not, ◌||◌, List, ◌∷◌, ◌++◌, length, map, take, drop, drop-cons, get_or, add-one, Option, Result, Ok, Err, refl, subst, sym, ap, ◌∙◌, append_assoc, arith, length-append, string_bytes, String, Global}
+use Rattle.std.proofs.Common.{◌≡◌, ℕ, suc, ◌+◌, ◌<◌, ◌≤◌, Bool, true, false, cond, not, ◌||◌, List, [], ◌∷◌, ◌++◌, length, map, take, drop, drop-cons, get_or, add-one, Option, Result, Ok, Err, refl, subst, sym, ap, ◌∙◌, append_assoc, arith, length-append, string_bytes, String, Global}
 use Rattle.std.specs.List.{flat_map, list_any}
 use Rattle.std.specs.Io.KnownBytes.{Appends}
 use Rattle.std.proofs.Math.Seq.{take-append-add}
@@ -21,10 +21,10 @@ use Rattle.fcdoc_core.proofs.DeliveryLemmas.{SoFar, so_far-start, appends_more}
 
 -- the answers of the machine without features to the lines that are not skipped, and the state behind a line
 abbrev pub answers_to : State → List (List ℕ) → List (Result Reply Refusal)
-answers_to s lines = answers no_features s (with_replies lines)
+answers_to s lines = answers [] no_features s (with_replies lines)
 
 abbrev pub state_behind : State → List ℕ → State
-state_behind s line = (step_line no_features s line).state
+state_behind s line = (step_line [] no_features s line).state
 
 abbrev pub text_of_answers : List (Result Reply Refusal) → List ℕ
 text_of_answers all = flat_map (λ piece. piece) (map answer_text all)
@@ -36,21 +36,21 @@ lines_left lines i line below is = rw add-one (drop-cons lines i line below ∙ 
 -- the answers that are left, at a line that is not skipped
 answers_left : (s : State) (lines : List (String Global)) (i : ℕ) (line : String Global) → i < length lines → line ≡ get_or lines i line → is_skipped (string_bytes line) ≡ false
     → answers_to s (map string_bytes (drop i lines))
-    ≡ (step_line no_features s (string_bytes line)).answer ∷ answers_to (state_behind s (string_bytes line)) (map string_bytes (drop (i + 1) lines))
+    ≡ (step_line [] no_features s (string_bytes line)).answer ∷ answers_to (state_behind s (string_bytes line)) (map string_bytes (drop (i + 1) lines))
 answers_left s lines i line below is kept =
     let rest : List (List ℕ) = with_replies (map string_bytes (drop (i + 1) lines)) in
-    ap (λ ls. answers_to s (map string_bytes ls)) (lines_left lines i line below is) ∙ ap (λ b. answers no_features s (cond (not b) (string_bytes line ∷ rest) rest)) kept
+    ap (λ ls. answers_to s (map string_bytes ls)) (lines_left lines i line below is) ∙ ap (λ b. answers [] no_features s (cond (not b) (string_bytes line ∷ rest) rest)) kept
 
 -- what is left of the text, at a line of the script
 pub text_left : (s : State) (lines : List (String Global)) (i : ℕ) (line : String Global) → i < length lines → line ≡ get_or lines i line → is_skipped (string_bytes line) ≡ false
     → text_of_answers (answers_to s (map string_bytes (drop i lines)))
-    ≡ answer_text (step_line no_features s (string_bytes line)).answer ++ text_of_answers (answers_to (state_behind s (string_bytes line)) (map string_bytes (drop (i + 1) lines)))
+    ≡ answer_text (step_line [] no_features s (string_bytes line)).answer ++ text_of_answers (answers_to (state_behind s (string_bytes line)) (map string_bytes (drop (i + 1) lines)))
 text_left s lines i line below is kept = ap text_of_answers (answers_left s lines i line below is kept)
 
 -- and whether a refusal is left
 pub refusal_left : (s : State) (lines : List (String Global)) (i : ℕ) (line : String Global) → i < length lines → line ≡ get_or lines i line → is_skipped (string_bytes line) ≡ false
     → list_any is_refusal (answers_to s (map string_bytes (drop i lines)))
-    ≡ (is_refusal (step_line no_features s (string_bytes line)).answer || list_any is_refusal (answers_to (state_behind s (string_bytes line)) (map string_bytes (drop (i + 1) lines))))
+    ≡ (is_refusal (step_line [] no_features s (string_bytes line)).answer || list_any is_refusal (answers_to (state_behind s (string_bytes line)) (map string_bytes (drop (i + 1) lines))))
 refusal_left s lines i line below is kept = ap (list_any is_refusal) (answers_left s lines i line below is kept)
 
 -- a piece more was given
@@ -107,15 +107,15 @@ replies_so_far-start s lines known count = record { so_far = so_far-start _ know
 module _ (s now : State) (lines : List (String Global)) (i : ℕ) (line : String Global) (text : List ℕ) (refused : Bool)
     (before mid after : Option (List ℕ)) (first old new : ℕ)
     (below : i < length lines) (is : line ≡ get_or lines i line) (same : text ≡ string_bytes line) (kept : is_skipped text ≡ false) (r : RepliesSoFar s now lines i refused before mid first old) where
-  left : SoFar (text_of_answers (answers_to s (map string_bytes lines))) (answer_text (step_line no_features now text).answer ++ text_of_answers (answers_to (state_behind now text) (map string_bytes (drop (i + 1) lines)))) before mid
+  left : SoFar (text_of_answers (answers_to s (map string_bytes lines))) (answer_text (step_line [] no_features now text).answer ++ text_of_answers (answers_to (state_behind now text) (map string_bytes (drop (i + 1) lines)))) before mid
   left = rw same (rw (text_left now lines i line below is (rw same at kept)) at r.so_far)
 
   refusal_is_left : list_any is_refusal (answers_to now (map string_bytes (drop i lines)))
-      ≡ (is_refusal (step_line no_features now text).answer || list_any is_refusal (answers_to (state_behind now text) (map string_bytes (drop (i + 1) lines))))
+      ≡ (is_refusal (step_line [] no_features now text).answer || list_any is_refusal (answers_to (state_behind now text) (map string_bytes (drop (i + 1) lines))))
   refusal_is_left = rw same (refusal_left now lines i line below is (rw same at kept))
 
   -- a reply more was written
-  pub replies_so_far-goes_on : (is_one : Bool) → Tells (answer_text (step_line no_features now text).answer) (λ b. b ≡ is_refusal (step_line no_features now text).answer) (Ok is_one) mid after old new
+  pub replies_so_far-goes_on : (is_one : Bool) → Tells (answer_text (step_line [] no_features now text).answer) (λ b. b ≡ is_refusal (step_line [] no_features now text).answer) (Ok is_one) mid after old new
       → (then : State) → then ≡ state_behind now text → RepliesSoFar s then lines (i + 1) (refused || is_one) before after first new
   replies_so_far-goes_on is_one told then behind = rw behind (record {
     so_far = so_far-piece _ _ _ before mid after left told.1;
@@ -125,7 +125,7 @@ module _ (s now : State) (lines : List (String Global)) (i : ℕ) (line : String
   })
 
   -- a reply was not written
-  pub replies_so_far-stops : (stop : Stop) → Tells {X = Bool} (answer_text (step_line no_features now text).answer) (λ b. b ≡ is_refusal (step_line no_features now text).answer) (Err stop) mid after old new
+  pub replies_so_far-stops : (stop : Stop) → Tells {X = Bool} (answer_text (step_line [] no_features now text).answer) (λ b. b ≡ is_refusal (step_line [] no_features now text).answer) (Err stop) mid after old new
       → Speaks (replies_of (answers_to s (map string_bytes lines))) (Err stop) before after first new
-  replies_so_far-stops stop told = tells-stops _ (answer_text (step_line no_features now text).answer) _ (λ b. b ≡ is_refusal (step_line no_features now text).answer)
+  replies_so_far-stops stop told = tells-stops _ (answer_text (step_line [] no_features now text).answer) _ (λ b. b ≡ is_refusal (step_line [] no_features now text).answer)
       (λ (status : Status). status ≡ status_of (answers_to s (map string_bytes lines))) stop before mid after first old new left r.same_count told

@@ -1,5 +1,5 @@
 -- What a run leaves, by its status.
-use Rattle.std.specs.Prelude.{◌≡◌, ◌≢◌, ◌⊎◌, ℕ, List, Option, IfSome}
+use Rattle.std.specs.Prelude.{◌≡◌, ◌≢◌, ◌⊎◌, ℕ, List, [], Option, IfSome}
 use Rattle.std.specs.Io.KnownBytes.{Appends, Keeps}
 use Rattle.fc_base.specs.Devices.{Held, HasRisen, last_count}
 use Rattle.document_outcomes.specs.Typed.{no_features}
@@ -10,7 +10,7 @@ use Rattle.fcdoc_core.specs.Top.{Top, text_of, top}
 
 -- this holds of the meaning of the words, where the store tells what it holds
 abbrev pub OfMeaning : Option Held → List (List ℕ) → (Top → Type 0) → Type 0
-OfMeaning known words P = IfSome known (λ held. P (top no_features words held))
+OfMeaning known words P = IfSome known (λ held. P (top [] no_features words held))
 
 -- the status is that of the meaning, and the sink was given its whole text
 pub record GaveAll (t : Top) (status : Status) (before after : Option (List ℕ)) : Type 0 where

@@ -4,6 +4,7 @@ use Rattle.std.specs.Prelude.{ℕ, List, [], ◌∷◌, length, Bool, true, fals
 use Rattle.std.specs.Result.{is_err}
 use Rattle.object_paths.specs.declared.path.Path.{Path}
 use Rattle.object_paths.specs.Slots.{Slot}
+use Rattle.property_types.specs.Plans.{Slots}
 use Rattle.expr_grammar.specs.Printed.{printed}
 use Rattle.expr_eval.specs.Firsts.{on_one}
 use Rattle.document_model.specs.Counts.{expressions, nodes_of_document}
@@ -86,27 +87,27 @@ recomputed m s = record {
   answer = Ok (reply.Recomputed (record { calls = length (called m s.last s.now); faults = faults_of m s.now }));
 }
 
--- one command
-abbrev pub step : Meanings → State → Command → Stepped
-step m s (command.Edit edit) = edited_to s (edited s.now edit)
-step m s (command.Get path) = asked s (got m s path)
-step m s (command.Expression path) = asked s (expression_told s.now path)
-step m s command.Recompute = recomputed m s
+-- one command, by the plans of the features at hand, and what features and placements give
+abbrev pub step : List Slots → Meanings → State → Command → Stepped
+step plans m s (command.Edit edit) = edited_to s (edited plans m s.clean s.now edit)
+step plans m s (command.Get path) = asked s (got m s path)
+step plans m s (command.Expression path) = asked s (expression_told s.now path)
+step plans m s command.Recompute = recomputed m s
 
 -- ---- lines
 
 -- a line: one that is no command which is built is refused
-abbrev pub step_by : Meanings → State → Option Command → Stepped
-step_by m s None = asked s (Err (refused not_built))
-step_by m s (Some c) = step m s c
+abbrev pub step_by : List Slots → Meanings → State → Option Command → Stepped
+step_by plans m s None = asked s (Err (refused not_built))
+step_by plans m s (Some c) = step plans m s c
 
-abbrev pub step_line : Meanings → State → List ℕ → Stepped
-step_line m s line = step_by m s (command_of line)
+abbrev pub step_line : List Slots → Meanings → State → List ℕ → Stepped
+step_line plans m s line = step_by plans m s (command_of line)
 
 -- the answers to the lines, one after another
-abbrev pub answers : Meanings → State → List (List ℕ) → List (Result Reply Refusal)
-answers m s [] = []
-answers m s (line ∷ lines) = (step_line m s line).answer ∷ answers m (step_line m s line).state lines
+abbrev pub answers : List Slots → Meanings → State → List (List ℕ) → List (Result Reply Refusal)
+answers plans m s [] = []
+answers plans m s (line ∷ lines) = (step_line plans m s line).answer ∷ answers plans m (step_line plans m s line).state lines
 
 -- an answer that is a refusal
 abbrev pub is_refusal : Result Reply Refusal → Bool

@@ -1,6 +1,6 @@
 -- Private: only contracts inside this crate cite this.
 -- What a run is to write once its document and script are there, and why it stops before.
-use Rattle.std.specs.Prelude.{◌≡◌, ℕ, ◌≤◌, Bool, true, false, List, length, Option, None, Some, Result, Ok, Err, IfSome, string_bytes}
+use Rattle.std.specs.Prelude.{◌≡◌, ℕ, ◌≤◌, Bool, true, false, List, [], length, Option, None, Some, Result, Ok, Err, IfSome, string_bytes}
 use Rattle.std.specs.Io.KnownBytes.{Appends}
 use Rattle.fc_base.specs.Devices.{Held, HasRisen, HoldsBeyond}
 use Rattle.fc_base.specs.declared.faults.DeviceFault.{DeviceFault}
@@ -31,7 +31,7 @@ top_of_plan DocumentTooLong = document_too_long
 top_of_plan (DocumentRefused line) = one_piece status.DocumentRefused line.items
 top_of_plan ScriptTooLong = script_too_long
 top_of_plan (ScriptRefused line) = one_piece status.ScriptRefused (string_bytes line)
-top_of_plan (Replies session script) = replies_of (answers no_features session (with_replies script))
+top_of_plan (Replies session script) = replies_of (answers [] no_features session (with_replies script))
 
 -- the plan is the meaning of the words, where the store tells what it holds
 abbrev pub Means : Option Held → (Held → Top) → Plan → Type 0
@@ -40,12 +40,12 @@ Means known meaning plan = IfSome known (λ held. meaning held ≡ top_of_plan p
 -- the plan is the meaning for some bytes under the script's name, or nothing there
 pub record MeansScript (name : List ℕ) (opened : Result State Unopened) (plan : Plan) : Type 0 where
   pub script : Option (List ℕ)
-  pub means : top_of_state no_features name script opened ≡ top_of_plan plan
+  pub means : top_of_state [] no_features name script opened ≡ top_of_plan plan
 
 -- the plan is the meaning for some files of these names
 pub record MeansNames (names : Names) (plan : Plan) : Type 0 where
   pub files : Files
-  pub means : top_of_names no_features names files.document files.script ≡ top_of_plan plan
+  pub means : top_of_names [] no_features names files.document files.script ≡ top_of_plan plan
 
 -- the same, where the words have names; else the plan is the usage line
 abbrev pub MeansFiles : Option Names → Plan → Type 0

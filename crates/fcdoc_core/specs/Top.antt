@@ -3,6 +3,7 @@ use Rattle.std.specs.Prelude.{ℕ, List, [], ◌∷◌, ◌++◌, map, length, n
 use Rattle.std.specs.List.{flat_map, list_any}
 use Rattle.std.specs.FinMap as held
 use Rattle.fc_base.specs.Devices.{Held}
+use Rattle.property_types.specs.Plans.{Slots}
 use Rattle.document_outcomes.specs.Full.{Meanings}
 use Rattle.doc_rules.specs.declared.refusal.Refusal.{Refusal}
 use Rattle.fcdoc_core.specs.declared.status.Status.{Status}
@@ -56,33 +57,33 @@ abbrev pub replies_of : List (Result Reply Refusal) → Top
 replies_of replies = record { pieces = map answer_text replies; status = status_of replies; put = None }
 
 -- a document that was opened, and all lines of the script, or why there are none
-abbrev pub top_of_lines : Meanings → State → Result (List (List ℕ)) Unreadable → Top
-top_of_lines m s (Err cause) = script_refused cause
-top_of_lines m s (Ok all) = replies_of (answers m s (with_replies all))
+abbrev pub top_of_lines : List Slots → Meanings → State → Result (List (List ℕ)) Unreadable → Top
+top_of_lines plans m s (Err cause) = script_refused cause
+top_of_lines plans m s (Ok all) = replies_of (answers plans m s (with_replies all))
 
 -- a document that was opened, and the bytes of the script
-abbrev pub top_of_script : Meanings → State → List ℕ → Top
-top_of_script m s bytes = if nat_le (length bytes) most_bytes then top_of_lines m s (script_of bytes) else script_too_long
+abbrev pub top_of_script : List Slots → Meanings → State → List ℕ → Top
+top_of_script plans m s bytes = if nat_le (length bytes) most_bytes then top_of_lines plans m s (script_of bytes) else script_too_long
 
 -- what stands under the script's name, and the document that was opened, or why there is none
-abbrev pub top_of_state : Meanings → List ℕ → Option (List ℕ) → Result State Unopened → Top
-top_of_state m script found (Err cause) = document_refused cause
-top_of_state m script None (Ok s) = missing script
-top_of_state m script (Some bytes) (Ok s) = top_of_script m s bytes
+abbrev pub top_of_state : List Slots → Meanings → List ℕ → Option (List ℕ) → Result State Unopened → Top
+top_of_state plans m script found (Err cause) = document_refused cause
+top_of_state plans m script None (Ok s) = missing script
+top_of_state plans m script (Some bytes) (Ok s) = top_of_script plans m s bytes
 
 -- what stands under the script's name, and the bytes of the document
-abbrev pub top_of_document : Meanings → List ℕ → Option (List ℕ) → List ℕ → Top
-top_of_document m script found bytes = if nat_le (length bytes) most_bytes then top_of_state m script found (opened_of bytes) else document_too_long
+abbrev pub top_of_document : List Slots → Meanings → List ℕ → Option (List ℕ) → List ℕ → Top
+top_of_document plans m script found bytes = if nat_le (length bytes) most_bytes then top_of_state plans m script found (opened_of bytes) else document_too_long
 
 -- what stands under the two names
-abbrev pub top_of_names : Meanings → Names → Option (List ℕ) → Option (List ℕ) → Top
-top_of_names m names None script = missing names.document
-top_of_names m names (Some bytes) script = top_of_document m names.script script bytes
+abbrev pub top_of_names : List Slots → Meanings → Names → Option (List ℕ) → Option (List ℕ) → Top
+top_of_names plans m names None script = missing names.document
+top_of_names plans m names (Some bytes) script = top_of_document plans m names.script script bytes
 
-abbrev pub top_of_words : Meanings → Option Names → Held → Top
-top_of_words m None h = usage
-top_of_words m (Some names) h = top_of_names m names (held.get h names.document) (held.get h names.script)
+abbrev pub top_of_words : List Slots → Meanings → Option Names → Held → Top
+top_of_words plans m None h = usage
+top_of_words plans m (Some names) h = top_of_names plans m names (held.get h names.document) (held.get h names.script)
 
 -- the meaning of a run of these words on a store that holds this
-unfoldable pub top : Meanings → List (List ℕ) → Held → Top
-top m words h = top_of_words m (names_of words) h
+unfoldable pub top : List Slots → Meanings → List (List ℕ) → Held → Top
+top plans m words h = top_of_words plans m (names_of words) h

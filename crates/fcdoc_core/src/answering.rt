@@ -1,6 +1,6 @@
 //! Answers the lines of a script.
 
-ghost use Rattle.std.specs.Prelude.{◌≡◌, IfOk, Ok, Err, true, false};
+ghost use Rattle.std.specs.Prelude.{◌≡◌, [], IfOk, Ok, Err, true, false};
 ghost use Rattle.document_outcomes.specs.Typed.{no_features};
 ghost use Rattle.doc_rules.specs.Edits.{IsNamed};
 ghost use Rattle.fcdoc_core.specs.Machine.{is_refusal, step, step_line};
@@ -52,9 +52,9 @@ fn answer_to_command<L>(
     command: &Command,
     steps: &mut Steps<L>,
 ) -> Result<Answer, AllocError>
-    ensures text { IfOk result (λ a. a.text.items ≡ answer_text (step no_features session.old command.now).answer) }
-    ensures refused { IfOk result (λ a. a.is_refusal ≡ is_refusal (step no_features session.old command.now).answer) }
-    ensures state { IfOk result (λ _. session.new ≡ (step no_features session.old command.now).state) }
+    ensures text { IfOk result (λ a. a.text.items ≡ answer_text (step [] no_features session.old command.now).answer) }
+    ensures refused { IfOk result (λ a. a.is_refusal ≡ is_refusal (step [] no_features session.old command.now).answer) }
+    ensures state { IfOk result (λ _. session.new ≡ (step [] no_features session.old command.now).state) }
 {
     match session.step(command, steps) {
         Ok(reply) => told(alloc, &reply),
@@ -70,9 +70,9 @@ pub(crate) fn answer_to<L>(
     line: &str,
     steps: &mut Steps<L>,
 ) -> Result<Answer, AllocError>
-    ensures text { IfOk result (λ a. a.text.items ≡ answer_text (step_line no_features session.old line.now).answer) }
-    ensures refused { IfOk result (λ a. a.is_refusal ≡ is_refusal (step_line no_features session.old line.now).answer) }
-    ensures state { IfOk result (λ _. session.new ≡ (step_line no_features session.old line.now).state) }
+    ensures text { IfOk result (λ a. a.text.items ≡ answer_text (step_line [] no_features session.old line.now).answer) }
+    ensures refused { IfOk result (λ a. a.is_refusal ≡ is_refusal (step_line [] no_features session.old line.now).answer) }
+    ensures state { IfOk result (λ _. session.new ≡ (step_line [] no_features session.old line.now).state) }
 {
     match Command::read(alloc, line) {
         Ok(command) => answer_to_command(alloc, session, &command, steps),

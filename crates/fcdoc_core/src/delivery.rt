@@ -1,6 +1,6 @@
 //! Writes what a run is to write, piece by piece.
 
-ghost use Rattle.std.specs.Prelude.{◌≡◌, map, string_bytes, IsTrue, IfOk};
+ghost use Rattle.std.specs.Prelude.{◌≡◌, [], map, string_bytes, IsTrue, IfOk};
 ghost use Rattle.document_outcomes.specs.Typed.{no_features};
 ghost use Rattle.fcdoc_core.specs.Machine.{answers, is_refusal, step_line};
 ghost use Rattle.fcdoc_core.specs.Replies.{answer_text};
@@ -51,9 +51,9 @@ fn reply_to<K: Sink>(
     line: &str,
     out: &mut K,
 ) -> Result<bool, Stop>
-    ensures told { let answer = (step_line no_features session.old line.now).answer in
+    ensures told { let answer = (step_line [] no_features session.old line.now).answer in
         Tells (answer_text answer) (λ refused. refused ≡ is_refusal answer) result (K.written out.old) (K.written out.new) (K.faults out.old) (K.faults out.new) }
-    ensures state { IfOk result (λ _. session.new ≡ (step_line no_features session.old line.now).state) }
+    ensures state { IfOk result (λ _. session.new ≡ (step_line [] no_features session.old line.now).state) }
 {
     let answer = answer_to(alloc, session, line, &mut Steps::new(()))?;
     say(out, answer.text.as_slice())?;
@@ -68,7 +68,7 @@ fn reply_to_all<K: Sink>(
     lines: &[String],
     out: &mut K,
 ) -> Result<Status, Stop>
-    ensures { Speaks (replies_of (answers no_features session.old (with_replies (map string_bytes lines.now)))) result (K.written out.old) (K.written out.new) (K.faults out.old) (K.faults out.new) }
+    ensures { Speaks (replies_of (answers [] no_features session.old (with_replies (map string_bytes lines.now)))) result (K.written out.old) (K.written out.new) (K.faults out.old) (K.faults out.new) }
 {
     let mut refused = false;
     for line in lines {

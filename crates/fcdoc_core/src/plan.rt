@@ -1,6 +1,6 @@
 //! Finds out what a run is to write: the words, the document and the script.
 
-ghost use Rattle.std.specs.Prelude.{◌≡◌, ◌++◌, map, codes, Option, None, Some, IfOk, IfSome, IsNone, IsSome, OnErr, string_bytes, Ok, Err};
+ghost use Rattle.std.specs.Prelude.{◌≡◌, ◌++◌, [], map, codes, Option, None, Some, IfOk, IfSome, IsNone, IsSome, OnErr, string_bytes, Ok, Err};
 ghost use Rattle.fc_base.specs.Devices.{Fetches};
 ghost use Rattle.fcdoc_core.specs.Plans.{Means, MeansFiles, MeansNames, MeansScript, CountsStop, IsFound, IsWithin, top_of_plan};
 ghost use Rattle.fcdoc_core.specs.ScriptFaults.{cause_told};
@@ -93,7 +93,7 @@ fn script_refused(alloc: Global, fault: &ScriptFault) -> Result<Plan, Stop>
 
 /// What follows for a session and the bytes of a script, within the limit.
 fn plan_of_script(alloc: Global, session: Session, bytes: &[u8]) -> Result<Plan, Stop>
-    ensures plan { IfOk result (λ plan. top_of_plan plan ≡ top_of_lines no_features session (script_of bytes.now)) }
+    ensures plan { IfOk result (λ plan. top_of_plan plan ≡ top_of_lines [] no_features session (script_of bytes.now)) }
     ensures stop { OnErr result (result ≡ Err Stop.Memory) }
 {
     match Script::read(alloc, bytes) {
@@ -110,7 +110,7 @@ fn plan_of_session<S: Store>(
     session: Session,
     script: &str,
 ) -> Result<Plan, Stop>
-    ensures told { IfOk result (Means (S.holds store.old) (λ held. top_of_state no_features script.now (get held script.now) (Ok session))) }
+    ensures told { IfOk result (Means (S.holds store.old) (λ held. top_of_state [] no_features script.now (get held script.now) (Ok session))) }
     ensures means { IfOk result (MeansScript script.now (Ok session)) }
     ensures holds { S.holds store.new ≡ S.holds store.old }
     ensures count { CountsStop result (S.faults store.old) (S.faults store.new) }
@@ -130,7 +130,7 @@ fn plan_of_document<S: Store>(
     document: &[u8],
     script: &str,
 ) -> Result<Plan, Stop>
-    ensures told { IfOk result (Means (S.holds store.old) (λ held. top_of_state no_features script.now (get held script.now) (opened_of document.now))) }
+    ensures told { IfOk result (Means (S.holds store.old) (λ held. top_of_state [] no_features script.now (get held script.now) (opened_of document.now))) }
     ensures means { IfOk result (MeansScript script.now (opened_of document.now)) }
     ensures holds { S.holds store.new ≡ S.holds store.old }
     ensures count { CountsStop result (S.faults store.old) (S.faults store.new) }
@@ -149,7 +149,7 @@ fn plan_of_names<S: Store>(
     document: &str,
     script: &str,
 ) -> Result<Plan, Stop>
-    ensures told { IfOk result (Means (S.holds store.old) (λ held. top_of_names no_features (record { document = document.now; script = script.now }) (get held document.now) (get held script.now))) }
+    ensures told { IfOk result (Means (S.holds store.old) (λ held. top_of_names [] no_features (record { document = document.now; script = script.now }) (get held document.now) (get held script.now))) }
     ensures means { IfOk result (MeansNames (record { document = document.now; script = script.now })) }
     ensures holds { S.holds store.new ≡ S.holds store.old }
     ensures count { CountsStop result (S.faults store.old) (S.faults store.new) }
@@ -169,7 +169,7 @@ pub(crate) fn plan_of_words<S: Store>(
     words: &[String],
     store: &mut S,
 ) -> Result<Plan, Stop>
-    ensures told { IfOk result (Means (S.holds store.old) (top no_features (map string_bytes words.now))) }
+    ensures told { IfOk result (Means (S.holds store.old) (top [] no_features (map string_bytes words.now))) }
     ensures means { IfOk result (MeansFiles (names_of (map string_bytes words.now))) }
     ensures usage { IsNone (names_of (map string_bytes words.now)) → result ≡ Ok Plan.Usage }
     ensures holds { S.holds store.new ≡ S.holds store.old }

@@ -1,4 +1,4 @@
-ghost use Rattle.std.specs.Prelude.{◌≡◌, ◌+◌, ◌-◌, ◌^◌, ◌≤◌, Err, IsTrue, OnOk, length, min};
+ghost use Rattle.std.specs.Prelude.{◌≡◌, ◌+◌, ◌-◌, ◌^◌, ◌≤◌, [], Err, IsTrue, OnOk, length, min};
 ghost use Rattle.document_model.specs.Counts.{expressions, nodes_of_document};
 ghost use Rattle.document_outcomes.specs.Typed.{no_features};
 ghost use Rattle.doc_rules.specs.declared.fault.DocFault.{DocFault};
@@ -88,7 +88,7 @@ impl Session {
     /// An edit copies and checks the whole document, and a recompute evaluates all its expressions, so
     /// both take time that grows with it.
     pub fn step<L>(&mut self, command: &Command, steps: &mut Steps<L>) -> Result<Reply, StepFault>
-        ensures exact { MeetsStep self.old self.new (step no_features self.old command.now) result }
+        ensures exact { MeetsStep self.old self.new (step [] no_features self.old command.now) result }
         ensures named { (r : Refusal) → result ≡ Err (Refused r) → IsNamed r }
         ensures at_least { OnOk result (min (steps.old + least_steps self.old command.now) (2 ^ 64 - 1) ≤ steps.new) }
         ensures never_less { steps.old ≤ steps.new }
@@ -111,10 +111,11 @@ impl Session {
 
     /// Makes an edit.
     fn edit(&mut self, edit: &Edit) -> Result<Reply, StepFault>
-        ensures exact { MeetsStep self.old self.new (edited_to self.old (edited self.old.now edit.now)) result }
+        ensures exact { MeetsStep self.old self.new (edited_to self.old (edited [] no_features self.old.clean self.old.now edit.now)) result }
         ensures named { (r : Refusal) → result ≡ Err (Refused r) → IsNamed r }
     {
-        apply_edit(self.alloc, &mut self.tables, edit)?;
+        let clean = self.clean.then_some(&self.values);
+        apply_edit(self.alloc, &mut self.tables, edit, clean)?;
         self.clean = false;
         Ok(Reply::Ok)
     }
