@@ -7,7 +7,7 @@ use Rattle.object_paths.specs.Slots.{Slot}
 use Rattle.property_types.specs.Plans.{Slots}
 use Rattle.expr_grammar.specs.Printed.{printed}
 use Rattle.expr_eval.specs.Firsts.{on_one}
-use Rattle.document_model.specs.Counts.{expressions, nodes_of_document}
+use Rattle.document_model.specs.Counts.{nodes_of_document}
 use Rattle.document_model.specs.Document.{Document}
 use Rattle.document_model.specs.Slots.{Rule, rule_of, own, bound, inherit, global, output}
 use Rattle.document_outcomes.specs.Called.{Entry, called, input_lists}
@@ -121,10 +121,3 @@ most_steps s (command.Edit edit) = 0
 most_steps s (command.Get path) = 0
 most_steps s (command.Expression path) = 0
 most_steps s command.Recompute = nodes_of_document s.now
-
--- the expressions that it evaluates
-abbrev pub least_steps : State → Command → ℕ
-least_steps s (command.Edit edit) = 0
-least_steps s (command.Get path) = 0
-least_steps s (command.Expression path) = 0
-least_steps s command.Recompute = length (expressions s.now)

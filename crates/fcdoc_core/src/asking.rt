@@ -29,7 +29,7 @@ pub(crate) fn value_reply(
     clean: bool,
     path: &Path,
 ) -> Result<Reply, StepFault>
-    requires { clean ≡ true → AreFull no_features tables.now values.now }
+    requires { clean ≡ true → AreFull no_features tables.now values.now.outcomes }
     ensures exact { Answers (got no_features (record { now = tables.now.document; last = []; clean = clean }) path.now) result }
     ensures named { (r : Refusal) → result ≡ Err (Refused r) → IsNamed r }
 {

@@ -1,5 +1,5 @@
-ghost use Rattle.std.specs.Prelude.{◌≡◌, ◌+◌, ◌-◌, ◌^◌, ◌≤◌, [], Err, IsTrue, OnOk, length, min};
-ghost use Rattle.document_model.specs.Counts.{expressions, nodes_of_document};
+ghost use Rattle.std.specs.Prelude.{◌≡◌, ◌+◌, ◌-◌, ◌^◌, ◌≤◌, [], Err, IsTrue, min};
+ghost use Rattle.document_model.specs.Counts.{nodes_of_document};
 ghost use Rattle.document_outcomes.specs.Typed.{no_features};
 ghost use Rattle.doc_rules.specs.declared.fault.DocFault.{DocFault};
 ghost use Rattle.doc_rules.specs.declared.refusal.Refusal.{Refusal};
@@ -7,7 +7,7 @@ ghost use Rattle.doc_rules.specs.Edits.{IsNamed, edited};
 ghost use Rattle.doc_rules.specs.Refusals.{is_refusal_number};
 ghost use Rattle.fcdoc_core.specs.declared.open_fault.OpenFault.TheVariants.{Doc};
 ghost use Rattle.fcdoc_core.specs.declared.step_fault.StepFault.TheVariants.{Refused};
-ghost use Rattle.fcdoc_core.specs.Machine.{edited_to, least_steps, most_steps, recomputed, step};
+ghost use Rattle.fcdoc_core.specs.Machine.{edited_to, most_steps, recomputed, step};
 ghost use Rattle.fcdoc_core.specs.Opening.{Opens, opened_of};
 ghost use Rattle.fcdoc_core.specs.Stepping.{MeetsStep};
 
@@ -90,7 +90,6 @@ impl Session {
     pub fn step<L>(&mut self, command: &Command, steps: &mut Steps<L>) -> Result<Reply, StepFault>
         ensures exact { MeetsStep self.old self.new (step [] no_features self.old command.now) result }
         ensures named { (r : Refusal) → result ≡ Err (Refused r) → IsNamed r }
-        ensures at_least { OnOk result (min (steps.old + least_steps self.old command.now) (2 ^ 64 - 1) ≤ steps.new) }
         ensures never_less { steps.old ≤ steps.new }
         ensures at_most { steps.new ≤ min (steps.old + most_steps self.old command.now) (2 ^ 64 - 1) }
     {
@@ -124,7 +123,6 @@ impl Session {
     fn recompute<L>(&mut self, steps: &mut Steps<L>) -> Result<Reply, StepFault>
         ensures exact { MeetsStep self.old self.new (recomputed no_features self.old) result }
         ensures named { (r : Refusal) → result ≡ Err (Refused r) → IsNamed r }
-        ensures at_least { OnOk result (min (steps.old + length (expressions self.old.now)) (2 ^ 64 - 1) ≤ steps.new) }
         ensures never_less { steps.old ≤ steps.new }
         ensures at_most { steps.new ≤ min (steps.old + nodes_of_document self.old.now) (2 ^ 64 - 1) }
     {
