@@ -38,7 +38,7 @@ use Rattle.doc_tables.proofs.ChangeLemmas.{one_more, more-entries, more-document
 use Rattle.doc_tables.proofs.CountLemmas.{slots-counted, sum_by-map, sum_by-same}
 use Rattle.doc_tables.proofs.Finding.{find-map, find-same, lookup-find, placed-key, same_text-sym}
 use Rattle.doc_tables.proofs.HeldBy.{document-shown, document-of, entries-shown, names-shown, number_by, slots_by, slots-shown, still-held}
-use Rattle.doc_tables.proofs.HeldLemmas.{KeyAt, Named, Owned, Owns, entry-held, key-at, key-place, object-found, one_slot, owner-looked, owns-held, slot_named, used-read}
+use Rattle.doc_tables.proofs.HeldLemmas.{KeyAt, Named, Owned, Owns, key-at, key-place, object-found, one_slot, owner-looked, owns-held, slot_named, used-read, entry-held}
 use Rattle.doc_tables.proofs.TableLemmas.{apart, at_number-map, grown-into, grown-kept, grown-new, pushed-into, pushed-new, room-more, table-count, table-more, used-within}
 use Rattle.document_model.proofs.FormLemmas.{IsObject-new_object, IsProperty-new_property, IsWellFormed-with_object, IsWellFormed-with_property}
 use Rattle.document_model.proofs.Members.{IsIn-left}
@@ -58,11 +58,11 @@ unnamed None h = refl
 unnamed (Some o) h = absurd (cc)
 
 -- no property of a name
-any-name : (es : List Named) (name : List ℕ) → list_any (λ (p : Property). same_text p.name name) (map property_held es) ≡ list_any (pointwise nat_eq name) (keys_of es)
+pub any-name : (es : List Named) (name : List ℕ) → list_any (λ (p : Property). same_text p.name name) (map property_held es) ≡ list_any (pointwise nat_eq name) (keys_of es)
 any-name [] name = refl
 any-name (e ∷ es) name = λ j. same_text-sym e.0 name j || any-name es name j
 
-not-true : (b : Bool) → not b ≡ true → b ≡ false
+pub not-true : (b : Bool) → not b ≡ true → b ≡ false
 not-true true h = absurd (false≢true h)
 not-true false h = refl
 
@@ -87,7 +87,7 @@ shown-added es us name entry added empty =
 
 -- ---- numbers that are free
 module _ (v : Numbered) (t : Inside) (held : IsHeld t) (is : numbered_held t ≡ v) where
-  names-are : (n : ℕ) → at_number t.object_names.items n ≡ name_at v n
+  pub names-are : (n : ℕ) → at_number t.object_names.items n ≡ name_at v n
   names-are n = ap (λ (w : Numbered). name_at w n) is
 
   keys-are : (n : ℕ) → option_map slot_of_key (at_number t.slot_keys.items n) ≡ slot_at v n
@@ -217,105 +217,106 @@ module _ (v : Numbered) (t : Inside) (held : IsHeld t) (is : numbered_held t ≡
   pub object-there : IsSome (lookup (pointwise nat_eq owner) t.objects.entries)
   object-there = ap is_some (owner-looked t held number owner owned)
 
-  module _ (i : ℕ) (placed : position (pointwise nat_eq owner) (keys_of t.objects.entries) ≡ Some i) (name : List ℕ) (lacks : IsTrue (lacks_property v number name)) where
+  module _ (i : ℕ) (placed : position (pointwise nat_eq owner) (keys_of t.objects.entries) ≡ Some i) where
     pub found : (o : Owned) × (slice_get t.objects.entries i ≡ Some o) × (o.0 ≡ owner)
     found = placed-key t.objects.entries owner i placed
 
-    abbrev o : Owned
+    abbrev pub o : Owned
     o = found.0
 
-    found-object : object_at v number ≡ Some (object_held o)
+    pub found-object : object_at v number ≡ Some (object_held o)
     found-object =
         subst (λ (w : Numbered). object_at w number ≡ Some (object_held o)) is
         (ap (option_and_then (object_named (document_held t.objects.entries))) (names-are v t held is number ∙ sym live ∙ ap Some (sym found.2))
         ∙ object-found t held i o found.1)
 
-    no-name : list_any (pointwise nat_eq name) (keys_of o.1.properties.entries) ≡ false
-    no-name =
-        sym (any-name o.1.properties.entries name)
-        ∙ not-true (list_any (λ (p : Property). same_text p.name name) (map property_held o.1.properties.entries))
-        (sym (ap (λ (q : Option Object). option_map_or (λ (x : Object). not (list_any (λ (p : Property). same_text p.name name) x.dynamics)) q true) found-object) ∙ lacks)
-
-    pub name-lacks : IfSome (slice_get t.objects.entries i) (λ (x : Owned). get (pointwise nat_eq) x.1.properties name ≡ None)
-    name-lacks =
-        subst (λ (r : Option Owned). IfSome r (λ (x : Owned). get (pointwise nat_eq) x.1.properties name ≡ None)) (sym found.1)
-        (none-lookup (pointwise nat_eq name) o.1.properties.entries no-name)
-
-    shown-at : slice_get (map shown t.objects.entries) i ≡ Some (shown o)
+    pub shown-at : slice_get (map shown t.objects.entries) i ≡ Some (shown o)
     shown-at = slice_get-map shown t.objects.entries i ∙ ap (option_map shown) found.1
 
-    module _ (u : Inside) (entry : PropertyEntry) (objects : map shown u.objects.entries ≡ one_filled (map shown t.objects.entries) i (shown o) name entry)
-        (one : entry.prop ≢ prop.Placement) (zero : entry.content ≡ Own (zero_value entry.prop)) (names : u.object_names.items ≡ t.object_names.items)
-        (free : slot_at v entry.slot.0 ≡ None) (here : at_number u.slot_keys.items entry.slot.0 ≡ Some (record { object = owner; property = name }))
-        (others : (m : ℕ) → m ≢ entry.slot.0 → at_number u.slot_keys.items m ≡ at_number t.slot_keys.items m) where
-      abbrev os : List Shown
-      os = map shown t.objects.entries
+    module _ (name : List ℕ) (lacks : IsTrue (lacks_property v number name)) where
+      no-name : list_any (pointwise nat_eq name) (keys_of o.1.properties.entries) ≡ false
+      no-name =
+          sym (any-name o.1.properties.entries name)
+          ∙ not-true (list_any (λ (p : Property). same_text p.name name) (map property_held o.1.properties.entries))
+          (sym (ap (λ (q : Option Object). option_map_or (λ (x : Object). not (list_any (λ (p : Property). same_text p.name name) x.dynamics)) q true) found-object) ∙ lacks)
 
-      abbrev slot : Slot
-      slot = record { object = o.0; name = Plain name }
+      pub name-lacks : IfSome (slice_get t.objects.entries i) (λ (x : Owned). get (pointwise nat_eq) x.1.properties name ≡ None)
+      name-lacks =
+          subst (λ (r : Option Owned). IfSome r (λ (x : Owned). get (pointwise nat_eq) x.1.properties name ≡ None)) (sym found.1)
+          (none-lookup (pointwise nat_eq name) o.1.properties.entries no-name)
 
-      abbrev before : List (Option Slot)
-      before = slots_of_keys t.slot_keys.items
+      module _ (u : Inside) (entry : PropertyEntry) (objects : map shown u.objects.entries ≡ one_filled (map shown t.objects.entries) i (shown o) name entry)
+          (one : entry.prop ≢ prop.Placement) (zero : entry.content ≡ Own (zero_value entry.prop)) (names : u.object_names.items ≡ t.object_names.items)
+          (free : slot_at v entry.slot.0 ≡ None) (here : at_number u.slot_keys.items entry.slot.0 ≡ Some (record { object = owner; property = name }))
+          (others : (m : ℕ) → m ≢ entry.slot.0 → at_number u.slot_keys.items m ≡ at_number t.slot_keys.items m) where
+        abbrev os : List Shown
+        os = map shown t.objects.entries
 
-      abbrev after : List (Option Slot)
-      after = slots_of_keys u.slot_keys.items
+        abbrev slot : Slot
+        slot = record { object = o.0; name = Plain name }
 
-      free-slot : at_number before entry.slot.0 ≡ None
-      free-slot = ap (λ (w : Numbered). slot_at w entry.slot.0) is ∙ free
+        abbrev before : List (Option Slot)
+        before = slots_of_keys t.slot_keys.items
 
-      slot-here : at_number after entry.slot.0 ≡ Some slot
-      slot-here =
-          at_number-map slot_of_key u.slot_keys.items entry.slot.0 ∙ ap (option_map slot_of_key) here
-          ∙ (λ j. Some (record { object = sym found.2 j; name = Plain name }))
+        abbrev after : List (Option Slot)
+        after = slots_of_keys u.slot_keys.items
 
-      other-slots : (m : ℕ) → m ≢ entry.slot.0 → at_number after m ≡ at_number before m
-      other-slots m other =
-          at_number-map slot_of_key u.slot_keys.items m ∙ ap (option_map slot_of_key) (others m other) ∙ sym (at_number-map slot_of_key t.slot_keys.items m)
+        free-slot : at_number before entry.slot.0 ≡ None
+        free-slot = ap (λ (w : Numbered). slot_at w entry.slot.0) is ∙ free
 
-      slots-more : IsTable after (flat_map slots_by (one_filled os i (shown o) name entry))
-      slots-more =
-          let grown = slots-filled os i (shown o) name entry in
-          table-more before (flat_map slots_by os) (slots-shown t held) after (flat_map slots_by (one_filled os i (shown o) name entry)) entry.slot.0 slot free-slot slot-here other-slots
-          (grown-into slots_by (with_entry (name, entry)) (entry.slot.0, slot) i os (shown o) shown-at grown)
-          (grown-kept slots_by (with_entry (name, entry)) (entry.slot.0, slot) i os (shown o) shown-at grown)
-          (grown-new slots_by (with_entry (name, entry)) (entry.slot.0, slot) i os (shown o) shown-at grown)
+        slot-here : at_number after entry.slot.0 ≡ Some slot
+        slot-here =
+            at_number-map slot_of_key u.slot_keys.items entry.slot.0 ∙ ap (option_map slot_of_key) here
+            ∙ (λ j. Some (record { object = sym found.2 j; name = Plain name }))
 
-      few-references : HasFewReferences entry.content
-      few-references = subst HasFewReferences (sym zero) tt
+        other-slots : (m : ℕ) → m ≢ entry.slot.0 → at_number after m ≡ at_number before m
+        other-slots m other =
+            at_number-map slot_of_key u.slot_keys.items m ∙ ap (option_map slot_of_key) (others m other) ∙ sym (at_number-map slot_of_key t.slot_keys.items m)
 
-      pub filled-leads : (q : List ℕ) → name_at v number ≡ Some q → LeadsTo v (numbered_held u) (with_property v.document q (new_property name entry.prop))
-      filled-leads q named =
-          let own : o.0 ≡ q = found.2 ∙ (let both : Some owner ≡ Some q = live ∙ named in cc) in
-          record {
-            document =
-                document-of u (one_filled os i (shown o) name entry) objects
-                ∙ filled-document os i (shown o) name entry shown-at (entries-shown t held) (fresh name entry one zero)
-                ∙ (λ j. with_property ((sym (document-shown t.objects.entries) ∙ ap (λ (w : Numbered). w.document) is) j) (own j) (new_property name entry.prop));
-            numbers = record {
-              objects = λ m other h k. ap (λ (l : List (Option (List ℕ))). at_number l m) names ∙ names-are v t held is m ∙ h;
-              slots = λ m s h k.
-                  let was : at_number before m ≡ Some s = ap (λ (w : Numbered). slot_at w m) is ∙ h in
-                  other-slots m (apart before m entry.slot.0 s was free-slot) ∙ was;
-            };
-          }
+        slots-more : IsTable after (flat_map slots_by (one_filled os i (shown o) name entry))
+        slots-more =
+            let grown = slots-filled os i (shown o) name entry in
+            table-more before (flat_map slots_by os) (slots-shown t held) after (flat_map slots_by (one_filled os i (shown o) name entry)) entry.slot.0 slot free-slot slot-here other-slots
+            (grown-into slots_by (with_entry (name, entry)) (entry.slot.0, slot) i os (shown o) shown-at grown)
+            (grown-kept slots_by (with_entry (name, entry)) (entry.slot.0, slot) i os (shown o) shown-at grown)
+            (grown-new slots_by (with_entry (name, entry)) (entry.slot.0, slot) i os (shown o) shown-at grown)
 
-      pub filled-held : ((m : ℕ) → m < entry.slot.0 → IsSome (slot_at v m)) → length (slots v.document) + 1 < 2 ^ 32 → length u.slot_keys.items < 2 ^ 32 → u.free_object ≡ t.free_object → u.free_slot ≡ entry.slot.0 + 1
-          → IsTrue (is_dynamic_name VarSet name) → IsTrue (is_added_type entry.prop) → IsHeld u
-      filled-held used few small next_object next_slot named added =
-          still-held u (one_filled os i (shown o) name entry) objects
-          (filled-entries os i (shown o) name entry shown-at (entries-shown t held) (record { one_slot = one; references = few-references }) no-name
-          (omega (arith, slots-counted v t held is, sum_by-map (λ (x : Shown). length x.2) shown t.objects.entries)))
-          (subst (IsTable u.object_names.items) (sym (filled-numbers os i (shown o) name entry))
-          (subst (λ (l : List (Option (List ℕ))). IsTable l (map number_by os)) (sym names) (names-shown t held)))
-          slots-more
-          (subst (HasRoom u.object_names.items) (sym next_object) (subst (λ (l : List (Option (List ℕ))). HasRoom l t.free_object) (sym names) held.object_room))
-          (subst (HasRoom after) (sym next_slot)
-          (room-more before after entry.slot.0 slot (λ m k. ap (λ (w : Numbered). is_some (slot_at w m)) is ∙ used m k) slot-here other-slots
-          (let map-key : Option SlotKey → Option Slot = option_map slot_of_key in omega (arith, length-map u.slot_keys.items map-key))))
-          (subst IsWellFormed (sym (filled-leads owner (sym live)).document)
-          (IsWellFormed-with_property v.document owner (object_held o) (new_property name entry.prop) (form-seen v t held is) (ap (option_and_then (object_named v.document)) live ∙ found-object) refl
-          (IsProperty-new_property VarSet name entry.prop named added)
-          (ap (list_any (pointwise nat_eq name)) (map-map (λ (p : Property). p.name) property_held o.1.properties.entries) ∙ no-name)))
+        few-references : HasFewReferences entry.content
+        few-references = subst HasFewReferences (sym zero) tt
+
+        pub filled-leads : (q : List ℕ) → name_at v number ≡ Some q → LeadsTo v (numbered_held u) (with_property v.document q (new_property name entry.prop))
+        filled-leads q named =
+            let own : o.0 ≡ q = found.2 ∙ (let both : Some owner ≡ Some q = live ∙ named in cc) in
+            record {
+              document =
+                  document-of u (one_filled os i (shown o) name entry) objects
+                  ∙ filled-document os i (shown o) name entry shown-at (entries-shown t held) (fresh name entry one zero)
+                  ∙ (λ j. with_property ((sym (document-shown t.objects.entries) ∙ ap (λ (w : Numbered). w.document) is) j) (own j) (new_property name entry.prop));
+              numbers = record {
+                objects = λ m other h k. ap (λ (l : List (Option (List ℕ))). at_number l m) names ∙ names-are v t held is m ∙ h;
+                slots = λ m s h k.
+                    let was : at_number before m ≡ Some s = ap (λ (w : Numbered). slot_at w m) is ∙ h in
+                    other-slots m (apart before m entry.slot.0 s was free-slot) ∙ was;
+              };
+            }
+
+        pub filled-held : ((m : ℕ) → m < entry.slot.0 → IsSome (slot_at v m)) → length (slots v.document) + 1 < 2 ^ 32 → length u.slot_keys.items < 2 ^ 32 → u.free_object ≡ t.free_object → u.free_slot ≡ entry.slot.0 + 1
+            → IsTrue (is_dynamic_name VarSet name) → IsTrue (is_added_type entry.prop) → IsHeld u
+        filled-held used few small next_object next_slot named added =
+            still-held u (one_filled os i (shown o) name entry) objects
+            (filled-entries os i (shown o) name entry shown-at (entries-shown t held) (record { one_slot = one; references = few-references }) no-name
+            (omega (arith, slots-counted v t held is, sum_by-map (λ (x : Shown). length x.2) shown t.objects.entries)))
+            (subst (IsTable u.object_names.items) (sym (filled-numbers os i (shown o) name entry))
+            (subst (λ (l : List (Option (List ℕ))). IsTable l (map number_by os)) (sym names) (names-shown t held)))
+            slots-more
+            (subst (HasRoom u.object_names.items) (sym next_object) (subst (λ (l : List (Option (List ℕ))). HasRoom l t.free_object) (sym names) held.object_room))
+            (subst (HasRoom after) (sym next_slot)
+            (room-more before after entry.slot.0 slot (λ m k. ap (λ (w : Numbered). is_some (slot_at w m)) is ∙ used m k) slot-here other-slots
+            (let map-key : Option SlotKey → Option Slot = option_map slot_of_key in omega (arith, length-map u.slot_keys.items map-key))))
+            (subst IsWellFormed (sym (filled-leads owner (sym live)).document)
+            (IsWellFormed-with_property v.document owner (object_held o) (new_property name entry.prop) (form-seen v t held is) (ap (option_and_then (object_named v.document)) live ∙ found-object) refl
+            (IsProperty-new_property VarSet name entry.prop named added)
+            (ap (list_any (pointwise nat_eq name)) (map-map (λ (p : Property). p.name) property_held o.1.properties.entries) ∙ no-name)))
 
 -- ---- another content
 module _ (v : Numbered) (t : Inside) (held : IsHeld t) (is : numbered_held t ≡ v) (n : ℕ) (key : SlotKey) (h : Some key ≡ at_number t.slot_keys.items n) where

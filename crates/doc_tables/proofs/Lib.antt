@@ -21,3 +21,6 @@ pub mod ChangeLemmas
 pub mod ChangeHeld
 pub mod CopyLemmas
 pub mod AddedLemmas
+pub mod RemoveLists
+pub mod RemoveLemmas
+pub mod RemoveHeld

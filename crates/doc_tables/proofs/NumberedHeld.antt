@@ -14,7 +14,7 @@ use Rattle.document_model.specs.Slots.{slots}
 use Rattle.document_model.proofs.Members.{from_map, from_flat_map, IsIn-map, IsIn-flat_map}
 use Rattle.doc_tables.specs.declared.tables.Tables.TheInside.{Inside}
 use Rattle.doc_tables.specs.Held.{object_held, document_held, numbered_held, IsHeld}
-use Rattle.doc_tables.specs.Numbered.{Numbered, IsNumbered, at_number, slot_at, name_at, number_of, number_of_object}
+use Rattle.doc_tables.specs.Numbered.{Numbered, IsNumbered, Keeps, at_number, slot_at, name_at, number_of, number_of_object}
 use Rattle.doc_tables.proofs.Finding.{find-map, find-place, find-passes, find-position, find-some, same-place, same_text-refl, same_text-told}
 use Rattle.doc_tables.proofs.HeldLemmas.{At, Named, Owned, Owns, at_number-held, in-at, member_below, name_at-held, object-found, object-held, owns-held, place-in, slot_named, slots_in, slots-held, slot_at-stands}
 
@@ -62,7 +62,7 @@ name_in (Marked p) = []
 
 module _ (t : Inside) (held : IsHeld t) where
   -- a slot has one number
-  slot-once : (n m : ℕ) (s : Slot) → slot_at (numbered_held t) n ≡ Some s → slot_at (numbered_held t) m ≡ Some s → m ≡ n
+  pub slot-once : (n m : ℕ) (s : Slot) → slot_at (numbered_held t) n ≡ Some s → slot_at (numbered_held t) m ≡ Some s → m ≡ n
   slot-once n m s h k =
       let a : At t n = at_number-held t held n (ap is_some h) in
       let b : At t m = at_number-held t held m (ap is_some k) in
@@ -80,13 +80,35 @@ module _ (t : Inside) (held : IsHeld t) where
       let entry : a.entry ≡ b.entry = cc (a.stands.property, there, properties) in
       sym b.number ∙ ap (λ (e : Named). e.1.slot.0) (sym entry) ∙ a.number
 
-  name-once : (n m : ℕ) (name : List ℕ) → name_at (numbered_held t) n ≡ Some name → name_at (numbered_held t) m ≡ Some name → m ≡ n
+  pub name-once : (n m : ℕ) (name : List ℕ) → name_at (numbered_held t) n ≡ Some name → name_at (numbered_held t) m ≡ Some name → m ≡ n
   name-once n m name h k =
       let a : Owns t.objects.entries n name = owns-held t held n name h in
       let b : Owns t.objects.entries m name = owns-held t held m name k in
       let place : a.place ≡ b.place = same-place (λ (x : Owned). x.0) t.objects.entries a.place b.place a.owner b.owner held.distinct a.stands b.stands (a.name_is ∙ sym b.name_is) in
       let owner : a.owner ≡ b.owner = cc (a.stands, b.stands, place) in
       sym b.number ∙ ap (λ (o : Owned). o.1.number.0) (sym owner) ∙ a.number
+
+  -- a slot of the document has a number
+  pub slot-has_number : (s : Slot) → IsIn s (slots (document_held t.objects.entries)) → (n : ℕ) × (slot_at (numbered_held t) n ≡ Some s)
+  slot-has_number s i =
+      let o = from_flat_map slots_in t.objects.entries s (subst (λ (l : List Slot). IsIn s l) (slots-held t held) i) in
+      let owner : Owned = o.0 in
+      let e = from_map (slot_named owner) owner.1.properties.entries s o.2 in
+      let entry : Named = e.0 in
+      let x = place-in t.objects.entries owner o.1 in
+      let y = place-in owner.1.properties.entries entry e.1 in
+      (entry.1.slot.0, slot_at-stands t held (record { object = x.0; property = y.0 }) owner entry (record { object = x.1; property = y.1 }) ∙ ap Some (sym e.2))
+
+  -- and so has an object
+  pub object-has_number : (name : List ℕ) → IsTrue (is_some (object_named (document_held t.objects.entries) name)) → (n : ℕ) × (name_at (numbered_held t) n ≡ Some name)
+  object-has_number name h =
+      let test : Owned → Bool = λ o. same_text o.0 name in
+      elim (find test t.objects.entries) as (λ r. find test t.objects.entries ≡ r → IsTrue (is_some (option_map object_held r)) → (n : ℕ) × (name_at (numbered_held t) n ≡ Some name)) [
+        | None ↦ λ e g. absurd (false≢true g)
+        | Some o ↦ λ e g.
+            let i = find-place test t.objects.entries o e in
+            (o.1.number.0, name_at-held t held i.0 o i.1 ∙ ap Some (same_text-told o.0 name (find-passes test t.objects.entries o e)))
+      ] refl (subst (λ (q : Option Object). IsTrue (is_some q)) (find-map object_held (λ q. same_text q.name name) t.objects.entries) h)
 
   text-exact : (a b : List ℕ) → IsTrue (same_text a b) ↔ (a ≡ b)
   text-exact a b = (same_text-told a b, λ e. subst (λ (c : List ℕ). same_text a c ≡ true) e (same_text-refl a))
@@ -99,17 +121,7 @@ module _ (t : Inside) (held : IsHeld t) where
     name-iff n name = number-iff same_text text-exact (numbered_held t).objects name n (λ m h k. name-once n m name h k)
 
     slot-numbered : (s : Slot) → IsIn s (slots (document_held t.objects.entries)) → IsTrue (is_some (number_of (numbered_held t) s))
-    slot-numbered s i =
-        let o = from_flat_map slots_in t.objects.entries s (subst (λ (l : List Slot). IsIn s l) (slots-held t held) i) in
-        let owner : Owned = o.0 in
-        let e = from_map (slot_named owner) owner.1.properties.entries s o.2 in
-        let entry : Named = e.0 in
-        let x = place-in t.objects.entries owner o.1 in
-        let y = place-in owner.1.properties.entries entry e.1 in
-        let at : slot_at (numbered_held t) entry.1.slot.0 ≡ Some s =
-        slot_at-stands t held (record { object = x.0; property = y.0 }) owner entry (record { object = x.1; property = y.1 }) ∙ ap Some (sym e.2)
-        in
-        ap is_some ((slot-iff entry.1.slot.0 s).0 at)
+    slot-numbered s i = let n = slot-has_number s i in ap is_some ((slot-iff n.0 s).0 n.1)
 
     numbered-slot : (s : Slot) → IsTrue (is_some (number_of (numbered_held t) s)) → IsIn s (slots (document_held t.objects.entries))
     numbered-slot s h =
@@ -126,15 +138,7 @@ module _ (t : Inside) (held : IsHeld t) where
         ] refl h
 
     object-numbered : (name : List ℕ) → IsTrue (is_some (object_named (document_held t.objects.entries) name)) → IsTrue (is_some (number_of_object (numbered_held t) name))
-    object-numbered name h =
-        let test : Owned → Bool = λ o. same_text o.0 name in
-        elim (find test t.objects.entries) as (λ r. find test t.objects.entries ≡ r → IsTrue (is_some (option_map object_held r)) → IsTrue (is_some (number_of_object (numbered_held t) name))) [
-          | None ↦ λ e g. absurd (false≢true g)
-          | Some o ↦ λ e g.
-              let i = find-place test t.objects.entries o e in
-              let at : name_at (numbered_held t) o.1.number.0 ≡ Some name = name_at-held t held i.0 o i.1 ∙ ap Some (same_text-told o.0 name (find-passes test t.objects.entries o e)) in
-              ap is_some ((name-iff o.1.number.0 name).0 at)
-        ] refl (subst (λ (q : Option Object). IsTrue (is_some q)) (find-map object_held (λ q. same_text q.name name) t.objects.entries) h)
+    object-numbered name h = let n = object-has_number name h in ap is_some ((name-iff n.0 name).0 n.1)
 
     numbered-object : (name : List ℕ) → IsTrue (is_some (number_of_object (numbered_held t) name)) → IsTrue (is_some (object_named (document_held t.objects.entries) name))
     numbered-object name h =
@@ -156,3 +160,15 @@ module _ (t : Inside) (held : IsHeld t) where
 -- what tables show is numbered
 pub numbered-read : (v : Numbered) (t : Inside) → IsHeld t → numbered_held t ≡ v → SameSlotIsEquality → IsNumbered v
 numbered-read v t held is exact = subst IsNumbered is (numbered-held t held exact)
+
+-- where numbers are only given up, what stays keeps its own
+pub shrunk-keeps : (t u : Inside) → IsHeld t → IsHeld u → ((n : ℕ) (name : List ℕ) → name_at (numbered_held u) n ≡ Some name → name_at (numbered_held t) n ≡ Some name)
+    → ((n : ℕ) (s : Slot) → slot_at (numbered_held u) n ≡ Some s → slot_at (numbered_held t) n ≡ Some s) → Keeps (numbered_held t) (numbered_held u)
+shrunk-keeps t u held kept names keys = record {
+  objects = λ n name h k.
+      let m = object-has_number u kept name k in
+      subst (λ (i : ℕ). name_at (numbered_held u) i ≡ Some name) (sym (name-once t held m.0 n name (names m.0 name m.1) h)) m.1;
+  slots = λ n s h k.
+      let m = slot-has_number u kept s k in
+      subst (λ (i : ℕ). slot_at (numbered_held u) i ≡ Some s) (sym (slot-once t held m.0 n s (keys m.0 s m.1) h)) m.1;
+}

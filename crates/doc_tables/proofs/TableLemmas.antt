@@ -1,13 +1,14 @@
 -- What stands in a table of numbers after a change, and how many numbers are in use.
-use Rattle.std.proofs.Common.{◌≡◌, ◌≢◌, ◌⊎◌, ◌+◌, ◌^◌, ◌<◌, ◌≤◌, ℕ, zero, suc, List, [], ◌∷◌, ◌++◌, map, length, slice_get, Option, Some, None, IsSome, is_some, inl, inr, refl, sym, ap, subst, ◌∙◌, arith, below_more}
-use Rattle.std.specs.List.{flat_map}
+use Rattle.std.proofs.Common.{◌≡◌, ◌≢◌, ◌⊎◌, ◌+◌, ◌^◌, ◌<◌, ◌≤◌, ℕ, zero, suc, Bool, true, false, cond, ◌||◌, nat_eq, List, [], ◌∷◌, ◌++◌, map, length, slice_get, Option, Some, None, IsSome, is_some, inl, inr, refl, sym, ap, subst, ◌∙◌, arith, below_more}
+use Rattle.std.specs.List.{flat_map, list_any}
 use Rattle.std.specs.Option.{option_map}
 use Rattle.std.proofs.lemmas.Bool.{false≢true}
+use Rattle.std.proofs.lemmas.Bool.Decides.{nat_tests}
 use Rattle.fc_base.specs.Graph.{IsIn}
 use Rattle.document_model.proofs.Members.{from_append, IsIn-left, IsIn-right}
 use Rattle.doc_tables.specs.Numbered.{at_number}
 use Rattle.doc_tables.specs.Shown.{change_at}
-use Rattle.doc_tables.specs.Table.{HasRoom, IsTable}
+use Rattle.doc_tables.specs.Table.{freed_at, HasRoom, IsTable}
 
 -- what has a number in a mapped table
 pub at_number-map : {A B : Type 0} (f : A → B) (table : List (Option A)) (n : ℕ) → at_number (map (option_map f) table) n ≡ option_map f (at_number table n)
@@ -158,3 +159,66 @@ module _ {A B : Type 0} (g : A → List B) (f : A → A) (y : B) where
       let own : g (f x) ≡ g x ++ y ∷ [] = subst (λ (q : A). g (f q) ≡ g q ++ y ∷ []) (sym same) e in
       IsIn-left (g (f x)) (flat_map g xs) y (subst (λ (l : List B). IsIn y l) (sym own) (pushed-new (g x) y))
   grown-new (suc i) (x ∷ xs) o at e = IsIn-right (g x) (flat_map g (change_at f i xs)) y (grown-new i xs o at e)
+
+-- ---- fewer numbers
+pub nat_eq-told : (m n : ℕ) → nat_eq m n ≡ true → m ≡ n
+nat_eq-told m n h = grind (arith, nat_tests, h)
+
+pub nat_eq-refl : (n : ℕ) → nat_eq n n ≡ true
+nat_eq-refl n = grind (arith, nat_tests)
+
+pub nat_eq-below : (m n : ℕ) → m < n → nat_eq m n ≡ false
+nat_eq-below m n h = grind (arith, nat_tests, h)
+
+pub any-from : (n : ℕ) (ns : List ℕ) → list_any (nat_eq n) ns ≡ true → IsIn n ns
+any-from n [] h = absurd (false≢true h)
+any-from n (m ∷ ms) h =
+    elim (nat_eq n m) as (λ b. nat_eq n m ≡ b → (b || list_any (nat_eq n) ms) ≡ true → IsIn n (m ∷ ms)) [
+      | true ↦ λ e k. inl (nat_eq-told n m e)
+      | false ↦ λ e k. inr (any-from n ms k)
+    ] refl h
+
+pub any-of : (n : ℕ) (ns : List ℕ) → IsIn n ns → list_any (nat_eq n) ns ≡ true
+any-of n [] i = absurd i
+any-of n (m ∷ ms) (inl e) = ap (λ b. b || list_any (nat_eq n) ms) (ap (nat_eq n) (sym e) ∙ nat_eq-refl n)
+any-of n (m ∷ ms) (inr i) =
+    elim (nat_eq n m) as (λ b. (b || list_any (nat_eq n) ms) ≡ true) [
+      | true ↦ refl
+      | false ↦ any-of n ms i
+    ]
+
+-- one number freed, and then the others
+pub freed-step : {A : Type 0} (m : ℕ) (ms : List ℕ) (n : ℕ) (x y : Option A) → y ≡ cond (nat_eq n m) None x → freed_at ms n y ≡ freed_at (m ∷ ms) n x
+freed-step {A} m ms n x y e =
+    ap (λ (z : Option A). cond (list_any (nat_eq n) ms) None z) e
+    ∙ (elim (nat_eq n m) as (λ b. cond (list_any (nat_eq n) ms) None (cond b None x) ≡ cond (b || list_any (nat_eq n) ms) None x) [
+      | true ↦ same (list_any (nat_eq n) ms)
+      | false ↦ refl
+    ])
+  where
+    same : (b : Bool) → (let none : Option A = None in cond b none none ≡ none)
+    same true = refl
+    same false = refl
+
+pub freed-shrinks : {A : Type 0} (b : Bool) (x : Option A) (a : A) → cond b None x ≡ Some a → x ≡ Some a
+freed-shrinks true x a h = absurd (cc)
+freed-shrinks false x a h = h
+
+module _ {A : Type 0} (table table' : List (Option A)) (gone : ℕ → Bool) (freed : (m : ℕ) → at_number table' m ≡ cond (gone m) None (at_number table m)) where
+  pub table-less : (things things' : List (ℕ × A)) → IsTable table things → ((x : ℕ × A) → IsIn x things' → IsIn x things × (gone x.0 ≡ false)) → ((x : ℕ × A) → IsIn x things → gone x.0 ≡ false → IsIn x things') → IsTable table' things'
+  table-less things things' h into kept = record {
+    there = λ m a i.
+        let j = into (m, a) i in
+        freed m ∙ ap (λ b. cond b None (at_number table m)) j.1 ∙ h.there m a j.0;
+    back = λ m a e. by m a (gone m) refl (sym (freed m) ∙ e);
+  }
+    where
+      by : (m : ℕ) (a : A) (b : Bool) → gone m ≡ b → cond b None (at_number table m) ≡ Some a → IsIn (m, a) things'
+      by m a true g e = absurd (cc)
+      by m a false g e = kept (m, a) (h.back m a e) g
+
+  pub room-less : (free free' : ℕ) → HasRoom table free → ((m : ℕ) → m < free' → m < free) → ((m : ℕ) → m < free' → gone m ≡ false) → length table' ≡ length table → HasRoom table' free'
+  room-less free free' h below kept same = record {
+    used = λ m k. ap is_some (freed m ∙ ap (λ b. cond b None (at_number table m)) (kept m k)) ∙ h.used m (below m k);
+    few = subst (λ (n : ℕ). n < 2 ^ 32) (sym same) h.few;
+  }

@@ -1,6 +1,8 @@
 -- Private: only contracts inside this crate cite this.
 -- The entries of tables without the room that their maps have, and how they change.
-use Rattle.std.specs.Prelude.{ℕ, zero, suc, List, [], ◌∷◌, ◌++◌}
+use Rattle.std.specs.Prelude.{ℕ, nat_eq, zero, suc, List, [], ◌∷◌, ◌++◌}
+use Rattle.std.specs.Cmp.Lexicographic.{pointwise}
+use Rattle.std.specs.Map.{remove_entry}
 use Rattle.document_model.specs.declared.content.Content.{Content}
 use Rattle.doc_tables.specs.declared.entry.ObjectEntry.{ObjectEntry}
 use Rattle.doc_tables.specs.declared.entry.PropertyEntry.{PropertyEntry}
@@ -29,3 +31,7 @@ entry_with new e = (e.0, record e.1 { content = new })
 -- an object with another content in the property at a place
 abbrev pub object_with : Content → ℕ → Shown → Shown
 object_with new n o = (o.0, o.1, change_at (entry_with new) n o.2, o.3)
+
+-- an object without the property of that name
+abbrev pub without_entry : List ℕ → Shown → Shown
+without_entry name o = (o.0, o.1, remove_entry (pointwise nat_eq name) o.2, o.3)

@@ -1,6 +1,7 @@
 -- Private: only contracts inside this crate cite this.
 -- Tables of what has which number.
-use Rattle.std.specs.Prelude.{◌≡◌, ◌^◌, ◌<◌, ℕ, List, length, Option, Some, IsSome}
+use Rattle.std.specs.Prelude.{◌≡◌, ◌^◌, ◌<◌, ℕ, nat_eq, List, length, Option, Some, None, if◌then◌else◌, IsSome}
+use Rattle.std.specs.List.{list_any}
 use Rattle.fc_base.specs.Graph.{IsIn}
 use Rattle.doc_tables.specs.Numbered.{at_number}
 
@@ -13,3 +14,7 @@ pub record IsTable {A : Type 0} (table : List (Option A)) (things : List (ℕ ×
 pub record HasRoom {A : Type 0} (table : List (Option A)) (free : ℕ) : Type 0 where
   pub used : (n : ℕ) → n < free → IsSome (at_number table n)
   pub few : length table < 2 ^ 32
+
+-- what has a number once these are freed
+abbrev pub freed_at : {A : Type 0} → List ℕ → ℕ → Option A → Option A
+freed_at numbers n thing = if list_any (nat_eq n) numbers then None else thing

@@ -2,9 +2,10 @@
 //!
 //! `Tables` holds a document of VarSets. It answers by name (`object_named`, `resolve`), by label
 //! (`object_labelled`), by place (`object_at`, `slot_at`) and by number (`own_value`, `expression_of`,
-//! `deps_of`, `dependency_lists`), and is changed by three primitives (`add_object`, `add_property`,
-//! `set_rule`). Numbers of objects and slots stay as long as what they name. `limits` has how large a
-//! document may be. What a document means, and which documents are refused, is not known here.
+//! `deps_of`, `dependency_lists`), and is changed by five primitives (`add_object`, `add_property`,
+//! `set_rule`, `remove_property`, `remove_object`). Numbers of objects and slots stay as long as what
+//! they name, and are free then. `limits` has how large a document may be. What a document means, and
+//! which documents are refused, is not known here.
 //!
 //! `docs/definitions.md` tells of `Numbered`, as which tables are seen. Rows are tried in
 //! `worked_documents/src/answers.rt`.
@@ -19,10 +20,10 @@ mod insertion;
 pub mod limits;
 mod numbers;
 mod objects;
+mod removals;
 mod rule;
 mod slots;
 mod tables;
 
-pub use entry::{ObjectEntry, PropertyEntry, SlotPlace};
 pub use rule::Rule;
 pub use tables::Tables;

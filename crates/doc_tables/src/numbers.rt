@@ -1,5 +1,5 @@
 //! Tables of what has which number. A number that is not in use is free, and is given again.
-ghost use Rattle.std.specs.Prelude.{◌≡◌, ◌≢◌, ◌<◌, ◌≤◌, ℕ, vec_len, vec_capacity, is_some, IsSome, None, Some};
+ghost use Rattle.std.specs.Prelude.{◌≡◌, ◌≢◌, ◌<◌, ◌≤◌, ℕ, min, nat_eq, vec_len, vec_capacity, is_some, if◌then◌else◌, IsSome, None, Some};
 ghost use Rattle.doc_tables.specs.Numbered.{at_number};
 
 /// What has a number.
@@ -46,5 +46,27 @@ pub(crate) fn put<T: Drop>(table: &mut Vec<Option<T>>, number: u32, thing: T)
         table[place] = Some(thing);
     } else {
         table.push(Some(thing)).unwrap();
+    }
+}
+
+/// Frees a number.
+pub(crate) fn release<T: Drop>(table: &mut Vec<Option<T>>, number: u32)
+    ensures freed { (n : ℕ) → at_number table.new.items n ≡ (if nat_eq n number then None else at_number table.old.items n) }
+    ensures len { vec_len table.new ≡ vec_len table.old }
+{
+    let place = number as usize;
+    if place < table.len() {
+        table[place] = None;
+    }
+}
+
+/// The lower of a number below which none is free and one that was freed.
+pub(crate) fn lower(free: usize, freed: u32) -> usize
+    ensures { result ≡ min free freed }
+{
+    if (freed as usize) < free {
+        freed as usize
+    } else {
+        free
     }
 }
