@@ -7,3 +7,4 @@ pub mod LabelNumbers
 pub mod ChainLemmas
 pub mod EditLemmas
 pub mod SlotLemmas
+pub mod FormLemmas

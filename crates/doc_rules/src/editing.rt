@@ -54,6 +54,7 @@ fn with_content(
     content: Content,
 ) -> Result<Tables, AllocError>
     requires live { IsSome (slot_at tables.now slot.0) }
+    requires content { IsContentAt tables.now slot.0 content }
     requires references { HasFewReferences content }
     ensures { IfOk result (λ edited. (s : Slot) → slot_at tables.now slot.0 ≡ Some s
         → LeadsTo tables.now edited (with_content tables.now.document s content)) }
@@ -71,6 +72,7 @@ fn accepted(
     content: Content,
 ) -> Result<Tables, EditFault>
     requires live { IsSome (slot_at tables.now slot.0) }
+    requires content { IsContentAt tables.now slot.0 content }
     requires references { HasFewReferences content }
     ensures { (s : Slot) → slot_at tables.now slot.0 ≡ Some s
         → Becomes tables.now (accepted (with_content tables.now.document s content)) result }

@@ -2,6 +2,7 @@
 ghost use Rattle.std.specs.Prelude.{◌≡◌, Bool, IsTrue, List, Err, Ok, Some};
 ghost use Rattle.property_types.specs.Plans.{Slots};
 ghost use Rattle.document_model.specs.Document.{Document};
+ghost use Rattle.document_model.specs.WellFormed.{IsWellFormed};
 ghost use Rattle.document_outcomes.specs.Faults.{Fault, IsValid, first_fault};
 ghost use Rattle.document_outcomes.specs.Full.{Meanings};
 ghost use Rattle.doc_rules.specs.declared.edit.Edit.{Edit};
@@ -22,4 +23,10 @@ pub fn refused_edits_are_named()
 /// An edit that is accepted leads to a valid document.
 pub fn accepted_edits_are_valid()
     ensures { (plans : List Slots) (m : Meanings) (clean : Bool) (d : Document) (e : Edit) (a : Accepted) → edited plans m clean d e ≡ Ok a → IsValid a.document }
+{}
+
+/// An edit that is accepted keeps the form of a document, whatever kinds its objects are of.
+pub fn edits_keep_form()
+    ensures { (plans : List Slots) (m : Meanings) (clean : Bool) (d : Document) (e : Edit) (a : Accepted)
+        → IsWellFormed d → edited plans m clean d e ≡ Ok a → IsWellFormed a.document }
 {}

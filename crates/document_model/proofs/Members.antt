@@ -1,8 +1,9 @@
 -- What stands in a list that is made of others, and where an option's value comes from.
-use Rattle.std.proofs.Common.{◌≡◌, ◌⊎◌, inl, inr, Bool, true, false, cond, List, [], ◌∷◌, ◌++◌, map, Some, None, refl, sym, subst}
+use Rattle.std.proofs.Common.{◌≡◌, ◌⊎◌, inl, inr, Bool, true, false, cond, List, [], ◌∷◌, ◌++◌, map, Some, None, refl, sym, ap, subst, ◌∙◌}
 use Rattle.std.specs.Prelude.{Option}
 use Rattle.std.specs.List.{find, filter, filter_map, flat_map, cons_option}
 use Rattle.std.specs.Option.{option_map, option_and_then, option_or, option_to_list}
+use Rattle.std.proofs.lemmas.Bool.{false≢true}
 use Rattle.fc_base.specs.Graph.{IsIn}
 
 module _ {A B : Type 0} where
@@ -38,6 +39,15 @@ module _ {A : Type 0} where
   from_find p [] y h = absurd (cc)
   from_find p (x ∷ xs) y h =
       elim (p x) as (λ b. cond b (Some x) (find p xs) ≡ Some y → IsIn y (x ∷ xs)) [ true ↦ λ e. inl (cc) | false ↦ λ e. inr (from_find p xs y e) ] h
+
+  -- where one passes, one is found
+  pub found-some : (p : A → Bool) (xs : List A) (x : A) → IsIn x xs → p x ≡ true → (y : A) × (find p xs ≡ Some y)
+  found-some p [] x i h = absurd i
+  found-some p (z ∷ xs) x i h =
+      elim (p z) as (λ b. p z ≡ b → (y : A) × (cond b (Some z) (find p xs) ≡ Some y)) [
+        | true ↦ λ e. (z, refl)
+        | false ↦ λ e. found-some p xs x (elim i [ inl q ↦ absurd (false≢true (sym e ∙ ap p (sym q) ∙ h)) | inr j ↦ j ]) h
+      ] refl
 
   pub from_filter : (p : A → Bool) (xs : List A) (y : A) → IsIn y (filter p xs) → IsIn y xs
   from_filter p [] y i = i

@@ -2,6 +2,7 @@
 -- the type of each slot of that name among inputs and dynamic properties.
 use Rattle.std.proofs.Common.{◌≡◌, inl, inr, ℕ, Bool, true, false, cond, not, ◌&&◌, ◌||◌, List, [], ◌∷◌, ◌++◌, map, Some, None, refl, sym, ap, subst, ◌∙◌, append-nil, codes}
 use Rattle.std.specs.List.{find, flat_map, list_all, AllByRecursion}
+use Rattle.std.specs.Option.{option_and_then}
 use Rattle.std.proofs.lemmas.Bool.{and_parts, or_from, or_parts, false≢true, false_from_ne_true}
 use Rattle.std.proofs.lemmas.List.{map-append}
 use Rattle.std.proofs.lemmas.List.Concat.{flat_map-append}
@@ -34,7 +35,7 @@ use Rattle.document_model.specs.TypedSlots.{components, type_of_component, prope
 use Rattle.document_model.specs.WellFormed.{IsKind, IsProperty, IsObject, IsWellFormed, Only}
 use Rattle.document_model.proofs.DistinctNames.{same-swapped, same-told, found-passes, distinct-parts, distinct-cons, distinct-ends, among-neither, among-parts, only-one, only-found, all-in}
 use Rattle.document_model.proofs.FormLemmas.{FitsSlots, IsWellFormed-with_content}
-use Rattle.document_model.proofs.Members.{and_then_some, from_map, from_append, from_flat_map, IsIn-map, IsIn-left, IsIn-right, IsIn-flat_map}
+use Rattle.document_model.proofs.Members.{found-some, from_map, from_append, from_flat_map, IsIn-map, IsIn-left, IsIn-right, IsIn-flat_map}
 
 -- ---- names of slots
 
@@ -323,28 +324,41 @@ found-first {A} p (z ∷ zs) ys x y i e h =
     ] refl h
 
 -- what fits the type of the row that is found fits each slot of the name
-fits-found : (d : Document) (o : Object) (name : SlotName) (r : Row) (type : PropType) (new : Content) → IsObject o
-    → row_in (rows d o) name ≡ Some r → r.prop ≡ Some type → IsContentOf type new → FitsSlots name new (input_slots o.kind ++ dynamic_slots o.dynamics)
-fits-found d o name r type new is found typed fits slot i e =
+fits-found : (d : Document) (o : Object) (name : SlotName) (new : Content) → IsObject o
+    → ((r : Row) (type : PropType) → row_in (rows d o) name ≡ Some r → r.prop ≡ Some type → IsContentOf type new)
+    → FitsSlots name new (input_slots o.kind ++ dynamic_slots o.dynamics)
+fits-found d o name new is fits slot i e =
     let split = rows-first d o o.kind is.only_dynamics in
     let there = slot-first o o.kind slot i in
-    let first = found-first (λ (q : Row). same_slot_name q.name name) (first_rows o o.kind) split.0 there.0 r there.1
-    (ap (λ (n : SlotName). same_slot_name n name) there.2 ∙ e) (ap (find (λ (q : Row). same_slot_name q.name name)) (sym split.1) ∙ found)
+    let passes : same_slot_name (there.0).name name ≡ true = ap (λ (n : SlotName). same_slot_name n name) there.2 ∙ e in
+    let found = found-some (λ (q : Row). same_slot_name q.name name) (rows d o) there.0
+    (subst (IsIn there.0) (sym split.1) (IsIn-left (first_rows o o.kind) split.0 there.0 there.1)) passes
     in
-    let own = row-first o o.kind r first in
+    let first = found-first (λ (q : Row). same_slot_name q.name name) (first_rows o o.kind) split.0 there.0 found.0 there.1 passes
+    (ap (find (λ (q : Row). same_slot_name q.name name)) (sym split.1) ∙ found.1)
+    in
+    let own = row-first o o.kind found.0 first in
     let named : same_slot_name (own.0).0 name ≡ true =
-    ap (λ (n : SlotName). same_slot_name n name) (sym own.2) ∙ found-passes (λ (q : Row). same_slot_name q.name name) (rows d o) r found
+    ap (λ (n : SlotName). same_slot_name n name) (sym own.2) ∙ found-passes (λ (q : Row). same_slot_name q.name name) (rows d o) found.0 found.1
     in
     let one : (own.0).1 ≡ slot.1 = object-one_type o is name own.0 slot own.1 i named e in
-    let same : type ≡ (own.0).1 = cc (typed, own.3) in
-    subst (λ (t : PropType). IsContentOf t new) (same ∙ one) fits
+    subst (λ (t : PropType). IsContentOf t new) one (fits found.0 (own.0).1 found.1 own.3)
+
+-- the object of a name is the one that is found
+named-found : (d : Document) (name : List ℕ) (o : Object) → IsWellFormed d → IsIn o d.objects → same_text o.name name ≡ true → object_named d name ≡ Some o
+named-found d name o is i e =
+    let there = found-some (λ (q : Object). same_text q.name name) d.objects o i e in
+    there.1 ∙ ap Some (sym (only-found (λ (q : Object). q.name) d.objects name o there.0 is.distinct i e there.1))
+
+-- a content of the type of the slot, where it has one; of the name of another no input and no dynamic property has a slot
+pub IsWellFormed-with_content_at : (d : Document) (s : Slot) (new : Content) → IsWellFormed d → ((type : PropType) → type_of d s ≡ Some type → IsContentOf type new) → IsWellFormed (with_content d s new)
+IsWellFormed-with_content_at d s new is fits =
+    IsWellFormed-with_content d s new is (λ o i e.
+    fits-found d o s.name new (all-in IsObject d.objects o is.objects i) (λ r type found typed.
+    let row : row_of d s ≡ Some r = ap (option_and_then (λ (q : Object). row_in (rows d q) s.name)) (named-found d s.object o is i e) ∙ found in
+    fits type (ap (option_and_then (λ (q : Row). q.prop)) row ∙ typed)))
 
 -- a content of the type of the slot
 pub IsWellFormed-with_typed_content : (d : Document) (s : Slot) (type : PropType) (new : Content) → IsWellFormed d → type_of d s ≡ Some type → IsContentOf type new → IsWellFormed (with_content d s new)
 IsWellFormed-with_typed_content d s type new is typed fits =
-    let row = and_then_some (λ (r : Row). r.prop) (row_of d s) type typed in
-    let owner = and_then_some (λ (o : Object). row_in (rows d o) s.name) (object_named d s.object) row.0 row.1 in
-    IsWellFormed-with_content d s new is (λ o i e.
-    let same : o ≡ owner.0 = only-found (λ (q : Object). q.name) d.objects s.object o owner.0 is.distinct i e owner.1 in
-    fits-found d o s.name row.0 type new (all-in IsObject d.objects o is.objects i)
-    (ap (λ (q : Object). row_in (rows d q) s.name) same ∙ owner.2) row.2 fits)
+    IsWellFormed-with_content_at d s new is (λ u e. let same : type ≡ u = cc (typed, e) in subst (λ (t : PropType). IsContentOf t new) same fits)

@@ -54,7 +54,7 @@ own_sort-typed : (t : Option PropType) (type : PropType) (v : Value) (k : Sort) 
 own_sort-typed None type v k h e = absurd (cc)
 own_sort-typed (Some u) type v k h e = let same : u ≡ type = cc in (one_sort-is (sort_of_type u) (sort_of_value v) k e).0 ∙ ap sort_of_type same
 
-bound_sort-typed : (t : Option PropType) (type : PropType) (found : SortOutcome) (k : Sort) → t ≡ Some type → bound_sort t found ≡ Ok k → k ≡ sort_of_type type
+pub bound_sort-typed : (t : Option PropType) (type : PropType) (found : SortOutcome) (k : Sort) → t ≡ Some type → bound_sort t found ≡ Ok k → k ≡ sort_of_type type
 bound_sort-typed None type found k h e = absurd (cc)
 bound_sort-typed (Some u) type (Err cause) k h e = absurd (cc)
 bound_sort-typed (Some u) type (Ok f) k h e = let same : u ≡ type = cc in given_sort-is (sort_of_type u) f k e ∙ ap sort_of_type same
