@@ -19,7 +19,7 @@ use Rattle.document_model.specs.Document.{Document, Object, object_named}
 use Rattle.document_model.specs.Slots.{Row, Rule, own, bound, inherit, global, output, rows, row_in, slot_of, slots, rule_of}
 use Rattle.document_model.specs.Resolution.{owner_of, slot_in, cell_slot, aliased_place, has_dynamic, named_slot, plain_slot, sheet_slot, spelled_slot, resolve}
 use Rattle.document_model.specs.Dependencies.{existing, slot_reached, is_cell_within, cells_reached, slots_of_tree, placement_of, link_slots_read, inputs_of, deps_by, deps}
-use Rattle.document_model.proofs.Members.{and_then_some, map_some, or_some, from_find, from_filter, from_map, from_append, from_option, from_flat_map, from_filter_map, IsIn-map, IsIn-flat_map}
+use Rattle.document_model.proofs.Members.{and_then_some, map_some, from_find, from_filter, from_map, from_append, from_option, from_flat_map, from_filter_map, IsIn-map, IsIn-flat_map}
 
 module _ (d : Document) where
   -- the slot of a row of an object

@@ -49,7 +49,7 @@ counts_work = record {
 
 pub types_work : TypesWork
 types_work = record {
-  part = refl;
+  parts = refl;
   turn = refl;
   transform = refl;
   bound = refl;

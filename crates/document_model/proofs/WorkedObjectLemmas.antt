@@ -1,5 +1,5 @@
 -- The worked objects are well-formed, or not, by computation.
-use Rattle.std.proofs.Common.{◌≡◌, false, refl, sym, ap, lit≤, [], ◌∷◌}
+use Rattle.std.proofs.Common.{false, refl, sym, ap, lit≤, [], ◌∷◌}
 use Rattle.std.specs.Prelude.{codes}
 use Rattle.std.specs.Fmt.{digits}
 use Rattle.std.specs.Option.{option_map_or}

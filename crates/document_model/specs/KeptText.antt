@@ -1,5 +1,5 @@
 -- What is kept as it was written: further attributes and foreign pieces of a document's text.
-use Rattle.std.specs.Prelude.{◌≡◌, ℕ, Bool, true, false, ◌==◌, ◌&&◌, not, nat_lt, List, [], ◌∷◌, ◌++◌, map, length, replicate, Option, Some, None, is_some, IsTrue, if◌then◌else◌, codes}
+use Rattle.std.specs.Prelude.{◌≡◌, ℕ, Bool, true, false, ◌==◌, ◌&&◌, not, nat_lt, List, [], ◌∷◌, ◌++◌, length, replicate, Option, Some, None, is_some, IsTrue, if◌then◌else◌, codes}
 use Rattle.std.specs.List.{list_all, list_any, filter_map, join_with_byte}
 use Rattle.std.specs.Option.{option_map, option_and_then, option_map_or}
 use Rattle.std.specs.Str.{is_utf8}

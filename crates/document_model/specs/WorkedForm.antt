@@ -1,23 +1,20 @@
 -- Kinds, new objects, counts and types, worked out.
-use Rattle.std.specs.Prelude.{◌≡◌, ℕ, pos, true, false, Bool, List, [], ◌∷◌, ◌++◌, map, length, Option, Some, None, codes}
+use Rattle.std.specs.Prelude.{◌≡◌, true, false, [], ◌∷◌, ◌++◌, map, length, Some, codes}
 use Rattle.object_paths.specs.declared.slot_name.SlotName.TheVariants.{Plain, Component}
-use Rattle.object_paths.specs.declared.slot_name.Component.TheVariants.{Turn, X}
-use Rattle.object_paths.specs.Slots.{Slot}
+use Rattle.object_paths.specs.declared.slot_name.Component.TheVariants.{Turn}
 use Rattle.property_types.specs.declared.prop_type.PropType.TheVariants as prop
-use Rattle.property_types.specs.declared.value.Value.TheVariants.{Number, Flag, Text}
+use Rattle.property_types.specs.declared.value.Value.TheVariants.{Flag}
 use Rattle.property_types.specs.Plans.{Slots}
 use Rattle.document_model.specs.declared.content.Content.TheVariants.{Own}
-use Rattle.document_model.specs.declared.kind.ObjectKind.{ObjectKind}
 use Rattle.document_model.specs.declared.kind.ObjectKind.TheVariants.{VarSet, Sheet, Link, Feature, Foreign}
 use Rattle.document_model.specs.Counts.{expressions, slots_and_empty_cells, nodes_of_document, dependencies_of_document}
-use Rattle.document_model.specs.Document.{Document, Object, Property, Cell}
 use Rattle.document_model.specs.Edited.{new_object, new_property, with_content}
 use Rattle.document_model.specs.Ends.{has_bounds}
-use Rattle.document_model.specs.Examples.{bare_object, document_of, varset, two}
+use Rattle.document_model.specs.Examples.{document_of, varset}
 use Rattle.document_model.specs.Kinds.{kind_of_type, type_of_kind, known_names}
-use Rattle.document_model.specs.LinkedBox.{box, box_plan, link, second_link, endless_link, sheet, linked_box, origin, mm, plain, named, place_at, cell_of}
-use Rattle.document_model.specs.Slots.{own, bound, rule_of, type_of}
-use Rattle.document_model.specs.WellFormed.{IsObject, IsKind, IsPlan, IsWellFormed, has_its_bounds}
+use Rattle.document_model.specs.LinkedBox.{box_plan, linked_box, origin, mm, plain, named}
+use Rattle.document_model.specs.Slots.{own, rule_of, type_of}
+use Rattle.document_model.specs.TypedSlots.{components}
 
 -- a plan of the same type with other slots
 abbrev pub other_box : Slots
@@ -65,7 +62,9 @@ pub record CountsWork : Type 0 where
 
 -- the types of a placement's parts and of a box's slots
 pub record TypesWork : Type 0 where
-  pub part : type_of linked_box (record { object = codes "L"; name = Component (codes "Placement") X }) ≡ Some prop.Distance
+  pub parts :
+      map (λ k. type_of linked_box (record { object = codes "L"; name = Component (codes "Placement") k })) components
+      ≡ Some prop.Distance ∷ Some prop.Distance ∷ Some prop.Distance ∷ Some prop.Turn ∷ []
   pub turn : type_of linked_box (record { object = codes "L"; name = Component (codes "Global") Turn }) ≡ Some prop.Turn
   pub transform : type_of linked_box (named (codes "L") (codes "LinkTransform")) ≡ Some prop.Bool
   pub bound : type_of linked_box (named (codes "Box") (codes "MaxZ")) ≡ Some prop.Distance

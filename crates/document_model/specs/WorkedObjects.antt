@@ -1,6 +1,5 @@
 -- Objects and documents that are well-formed, and some that are not, worked out.
-use Rattle.std.specs.Prelude.{◌≡◌, ℕ, pos, true, false, List, [], ◌∷◌, ◌++◌, map, Option, Some, None, codes}
-use Rattle.object_paths.specs.declared.slot_name.SlotName.{SlotName}
+use Rattle.std.specs.Prelude.{◌≡◌, ℕ, true, false, List, [], ◌∷◌, map, Some, None, codes}
 use Rattle.object_paths.specs.declared.slot_name.SlotName.TheVariants.{Plain, Marked}
 use Rattle.property_types.specs.declared.prop_type.PropType.{PropType}
 use Rattle.property_types.specs.declared.prop_type.PropType.TheVariants as prop
@@ -8,13 +7,13 @@ use Rattle.property_types.specs.declared.value.Value.TheVariants.{Flag, Text}
 use Rattle.property_types.specs.Plans.{Slots}
 use Rattle.document_model.specs.declared.content.Content.{Content}
 use Rattle.document_model.specs.declared.content.Content.TheVariants.{Own}
-use Rattle.document_model.specs.declared.kind.ObjectKind.TheVariants.{VarSet, Sheet, Feature, Foreign}
-use Rattle.document_model.specs.Document.{Document, Object, Property, Cell}
+use Rattle.document_model.specs.declared.kind.ObjectKind.TheVariants.{VarSet, Feature, Foreign}
+use Rattle.document_model.specs.Document.{Object, Property}
 use Rattle.document_model.specs.Examples.{bare_object, document_of, two, varset}
 use Rattle.document_model.specs.Kinds.{FollowsPlans, known_names}
-use Rattle.document_model.specs.LinkedBox.{place_at, mm, plain, edge, origin, result_of, box, box_plan, link, sheet, cell_of, linked_box}
+use Rattle.document_model.specs.LinkedBox.{place_at, mm, edge, origin, result_of, box, box_plan, link, sheet, cell_of, linked_box}
 use Rattle.document_model.specs.TypedSlots.{bound_names}
-use Rattle.document_model.specs.WellFormed.{IsCell, IsKind, IsObject, IsOverride, IsPlan, IsWellFormed, are_kept, is_foreign_type}
+use Rattle.document_model.specs.WellFormed.{IsCell, IsKind, IsObject, IsOverride, IsWellFormed, are_kept, is_foreign_type}
 use Rattle.document_model.specs.WorkedForm.{other_box}
 
 -- the plan of a compound, and a compound of these members, at least one

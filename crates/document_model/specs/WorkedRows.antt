@@ -1,19 +1,16 @@
 -- Features that are not placed, compounds, sheets and links to them: slots, paths, dependencies and edits,
 -- worked out.
-use Rattle.std.specs.Prelude.{◌≡◌, ℕ, pos, true, false, List, [], ◌∷◌, ◌++◌, map, length, Option, Some, None, codes}
+use Rattle.std.specs.Prelude.{◌≡◌, ℕ, true, false, List, [], ◌∷◌, ◌++◌, map, length, Some, None, codes}
 use Rattle.object_paths.specs.declared.slot_name.Component.TheVariants.{X, Y, Z, Turn}
 use Rattle.object_paths.specs.declared.slot_name.SlotName.{SlotName}
 use Rattle.object_paths.specs.declared.slot_name.SlotName.TheVariants.{Plain, Component, Marked}
-use Rattle.object_paths.specs.declared.path.Owner.TheVariants.{Here, ByName, ByLabel}
-use Rattle.object_paths.specs.Slots.{Slot}
+use Rattle.object_paths.specs.declared.path.Owner.TheVariants.{ByName}
 use Rattle.property_types.specs.declared.prop_type.PropType.TheVariants as prop
 use Rattle.property_types.specs.declared.value.Value.TheVariants.{Flag}
 use Rattle.property_types.specs.Plans.{Slots}
 use Rattle.expr_tree.specs.declared.functions.AggregateOp.TheVariants.{Sum}
 use Rattle.expr_tree.specs.Tree.{Tree, aggregate, cells, tree, path, no_more}
-use Rattle.document_model.specs.declared.content.Content.{Content}
 use Rattle.document_model.specs.declared.content.Content.TheVariants.{Own, Bound}
-use Rattle.document_model.specs.declared.kind.ObjectKind.{ObjectKind}
 use Rattle.document_model.specs.declared.kind.ObjectKind.TheVariants.{VarSet, Sheet, Link, Feature, Foreign}
 use Rattle.document_model.specs.Dependencies.{deps, inputs_of}
 use Rattle.document_model.specs.Document.{Document, Object, Property}
@@ -21,9 +18,9 @@ use Rattle.document_model.specs.Edited.{new_object, with_content, with_object, w
 use Rattle.document_model.specs.Ends.{has_bounds}
 use Rattle.document_model.specs.Examples.{bare_object, document_of, two, varset}
 use Rattle.document_model.specs.Kinds.{known_names}
-use Rattle.document_model.specs.LinkedBox.{place_at, mm, plain, edge, origin, result_of, box, link, second_link, sheet, cell_of, cell_at, first_three, here, labelled, named, part, linked_box}
+use Rattle.document_model.specs.LinkedBox.{place_at, mm, plain, edge, origin, result_of, box, link, second_link, sheet, cell_of, cell_at, here, labelled, named, part, linked_box}
 use Rattle.document_model.specs.Resolution.{resolve}
-use Rattle.document_model.specs.Slots.{Row, inherit, own, rows, rule_of, slots, type_of}
+use Rattle.document_model.specs.Slots.{Row, own, rows, rule_of, slots, type_of}
 use Rattle.document_model.specs.WorkedObjects.{compound, compound_plan, dynamic}
 
 -- a frame: a feature that is not placed

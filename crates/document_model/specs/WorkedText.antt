@@ -1,6 +1,6 @@
 -- Attributes and pieces of text that are kept, and some that are not, worked out.
 use Rattle.std.specs.Prelude.{◌≡◌, ℕ, zero, suc, true, false, List, [], ◌∷◌, ◌++◌, map, codes}
-use Rattle.document_model.specs.declared.kind.ObjectKind.TheVariants.{VarSet, Sheet, Link, Feature, Foreign}
+use Rattle.document_model.specs.declared.kind.ObjectKind.TheVariants.{VarSet, Sheet, Link, Feature}
 use Rattle.document_model.specs.ForeignProperties.{is_properties_piece}
 use Rattle.document_model.specs.KeptText.{is_attribute, are_attributes, is_piece, is_document_piece, is_object_piece, is_cells_piece, IsExtra, document_attributes, object_attributes, property_attributes, cell_attributes}
 use Rattle.document_model.specs.LinkedBox.{box_plan}
