@@ -323,26 +323,29 @@ found-first {A} p (z ∷ zs) ys x y i e h =
       | false ↦ λ g k. inr (found-first p zs ys x y (elim i [ inl q ↦ absurd (false≢true (sym g ∙ ap p (sym q) ∙ e)) | inr j ↦ j ]) e k)
     ] refl h
 
--- what fits the type of the row that is found fits each slot of the name
+-- what fits the type of the row that is found fits each slot of the name, whatever rows come later
+fits-first : (o : Object) (name : SlotName) (new : Content) (later : List Row) → IsObject o
+    → ((r : Row) (type : PropType) → row_in (first_rows o o.kind ++ later) name ≡ Some r → r.prop ≡ Some type → IsContentOf type new)
+    → FitsSlots name new (input_slots o.kind ++ dynamic_slots o.dynamics)
+fits-first o name new later is fits slot i e =
+    let passes : Row → Bool = λ q. same_slot_name q.name name in
+    let there = slot-first o o.kind slot i in
+    let passed : same_slot_name (there.0).name name ≡ true = ap (λ (n : SlotName). same_slot_name n name) there.2 ∙ e in
+    let found = found-some passes (first_rows o o.kind ++ later) there.0 (IsIn-left (first_rows o o.kind) later there.0 there.1) passed in
+    let own = row-first o o.kind found.0 (found-first passes (first_rows o o.kind) later there.0 found.0 there.1 passed found.1) in
+    let named : same_slot_name (own.0).0 name ≡ true =
+    ap (λ (n : SlotName). same_slot_name n name) (sym own.2) ∙ found-passes passes (first_rows o o.kind ++ later) found.0 found.1
+    in
+    subst (λ (t : PropType). IsContentOf t new) (object-one_type o is name own.0 slot own.1 i named e) (fits found.0 (own.0).1 found.1 own.3)
+
+-- what fits the type of the row that is found among all
 fits-found : (d : Document) (o : Object) (name : SlotName) (new : Content) → IsObject o
     → ((r : Row) (type : PropType) → row_in (rows d o) name ≡ Some r → r.prop ≡ Some type → IsContentOf type new)
     → FitsSlots name new (input_slots o.kind ++ dynamic_slots o.dynamics)
-fits-found d o name new is fits slot i e =
+fits-found d o name new is fits =
     let split = rows-first d o o.kind is.only_dynamics in
-    let there = slot-first o o.kind slot i in
-    let passes : same_slot_name (there.0).name name ≡ true = ap (λ (n : SlotName). same_slot_name n name) there.2 ∙ e in
-    let found = found-some (λ (q : Row). same_slot_name q.name name) (rows d o) there.0
-    (subst (IsIn there.0) (sym split.1) (IsIn-left (first_rows o o.kind) split.0 there.0 there.1)) passes
-    in
-    let first = found-first (λ (q : Row). same_slot_name q.name name) (first_rows o o.kind) split.0 there.0 found.0 there.1 passes
-    (ap (find (λ (q : Row). same_slot_name q.name name)) (sym split.1) ∙ found.1)
-    in
-    let own = row-first o o.kind found.0 first in
-    let named : same_slot_name (own.0).0 name ≡ true =
-    ap (λ (n : SlotName). same_slot_name n name) (sym own.2) ∙ found-passes (λ (q : Row). same_slot_name q.name name) (rows d o) found.0 found.1
-    in
-    let one : (own.0).1 ≡ slot.1 = object-one_type o is name own.0 slot own.1 i named e in
-    subst (λ (t : PropType). IsContentOf t new) one (fits found.0 (own.0).1 found.1 own.3)
+    fits-first o name new split.0 is
+    (subst (λ (rs : List Row). (r : Row) (type : PropType) → row_in rs name ≡ Some r → r.prop ≡ Some type → IsContentOf type new) split.1 fits)
 
 -- the object of a name is the one that is found
 named-found : (d : Document) (name : List ℕ) (o : Object) → IsWellFormed d → IsIn o d.objects → same_text o.name name ≡ true → object_named d name ≡ Some o
