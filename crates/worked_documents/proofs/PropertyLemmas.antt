@@ -84,3 +84,53 @@ pub nothing-numbered : (t : Numbered) (id : Option SlotId) (q : Option Slot) →
 nothing-numbered t None None h e = refl
 nothing-numbered t None (Some s) h e = absurd (cc)
 nothing-numbered t (Some id) q h e = absurd (cc)
+
+-- where a row is found, a property has the name
+row-named : (name : List ℕ) (ps : List Property) → AllByRecursion HasOneSlot ps
+    → is_some (row_in (flat_map (λ p. rows_in_order (property_slots p.name p.prop) p.contents) ps) (Plain name)) ≡ true
+    → list_any (λ (p : Property). same_text p.name name) ps ≡ true
+row-named name [] held h = absurd (cc)
+row-named name (p ∷ ps) held h =
+    let rest : List Row = flat_map (λ p. rows_in_order (property_slots p.name p.prop) p.contents) ps in
+    let one = rows_of_one p held.0 in
+    let r : Row = one.0 in
+    let found : is_some (cond (same_slot_name r.name (Plain name)) (Some r) (row_in rest (Plain name))) ≡ true =
+    sym (ap (λ (all : List Row). is_some (row_in (all ++ rest) (Plain name))) one.1) ∙ h in
+    let test : is_some (cond (same_text p.name name) (Some r) (row_in rest (Plain name))) ≡ true =
+    subst (λ n. is_some (cond (same_slot_name n (Plain name)) (Some r) (row_in rest (Plain name))) ≡ true) one.2 found in
+    elim (same_text p.name name) as (λ (b : Bool). is_some (cond b (Some r) (row_in rest (Plain name))) ≡ true
+    → (b || list_any (λ (p : Property). same_text p.name name) ps) ≡ true) [
+      | true ↦ λ e. refl
+      | false ↦ λ e. row-named name ps held.1 e
+    ] test
+
+number-there : (t : Numbered) (id : Option SlotId) (q : Option Slot) → IsNumberOf t id q → is_some id ≡ true → is_some q ≡ true
+number-there t id (Some s) h e = refl
+number-there t None None h e = e
+number-there t (Some i) None h e = absurd (cc)
+
+-- an object with a slot of its own has a property of that name
+module _ (t : Numbered) (holds : HoldsVarSets t.document) (name : List ℕ) where
+  slot-named : (o : Object) → IsIn o t.document.objects → is_some (slot_in t.document o (Plain name)) ≡ true → list_any (λ (p : Property). same_text p.name name) o.dynamics ≡ true
+  slot-named o here h =
+      let set : IsVarSet o = of_all IsVarSet t.document.objects o holds.objects here in
+      let all : rows t.document o ≡ dynamic_rows o = ap (rows_by t.document o) (ap (λ (q : Object). q.kind) set.object) in
+      row-named name o.dynamics set.properties
+      (elim (row_in (dynamic_rows o) (Plain name)) as (λ (q : Option Row). is_some (option_map (λ (r : Row). slot_of o r.name) q) ≡ true → is_some q ≡ true) [
+        | None ↦ λ e. e
+        | Some r ↦ λ e. refl
+      ] (sym (ap (λ (rs : List Row). is_some (option_map (λ (r : Row). slot_of o r.name) (row_in rs (Plain name)))) all) ∙ h))
+
+  pub slot-has_property : (n : ℕ) (id : Option SlotId) → IsNumberOf t id (option_and_then (λ o. slot_in t.document o (Plain name)) (object_at t n)) → is_some id ≡ true → not (lacks_property t n name) ≡ true
+  slot-has_property n id told h =
+      let there : is_some (option_and_then (λ o. slot_in t.document o (Plain name)) (object_at t n)) ≡ true =
+      number-there t id (option_and_then (λ o. slot_in t.document o (Plain name)) (object_at t n)) told h
+      in
+      elim (object_at t n) as (λ (q : Option Object). object_at t n ≡ q → is_some (option_and_then (λ o. slot_in t.document o (Plain name)) q) ≡ true
+      → not (option_map_or (λ (o : Object). not (list_any (λ (p : Property). same_text p.name name) o.dynamics)) q true) ≡ true) [
+        | None ↦ λ e k. absurd (cc)
+        | Some o ↦ λ e k.
+            let named = and_then_some (object_named t.document) (name_at t n) o e in
+            let here : IsIn o t.document.objects = from_find (λ (q : Object). same_text q.name named.0) t.document.objects o named.2 in
+            ap (λ (b : Bool). not (not b)) (slot-named o here k)
+      ] refl there

@@ -1,7 +1,9 @@
 //! What tables answer.
-use crate::building::slot_named;
+use crate::building::{add_line, slot_named};
 use crate::faults::document_of;
 use doc_tables::{Rule, Tables};
+use fc_base::Name;
+use object_paths::SlotName;
 use std::alloc::Global;
 use std::test::Fail;
 
@@ -24,5 +26,72 @@ fn answers_what_is_asked(rt: HostRuntime) -> Result<(), Fail> {
     assert!(rt; tables.node_count() == 5 && tables.dependency_count() == 2);
     assert!(rt; tables.path_of(rt.alloc(), b)?.as_str() == "B.b");
     assert!(rt; tables.bound_of(rt.alloc(), b)?.is_some());
+    Ok(())
+}
+
+/// What is removed from the three slots, and the paths of the first and the second slot then.
+static REMOVALS: [(&str, &str, &str); 5] = [
+    ("A.a", "B.b", "B.c"),
+    ("A", "B.b", "B.c"),
+    ("B.b", "A.a", "B.c"),
+    ("B.c", "A.a", "B.b"),
+    ("B", "A.a", ""),
+];
+
+/// Removes a property.
+fn remove_slot(alloc: Global, tables: &mut Tables, object: &str, name: &str) -> Result<(), Fail> {
+    let Some(object) = tables.object_named(object) else {
+        return Err(Fail::new("no such object"));
+    };
+    let name = Name::read(alloc, name)?;
+    let slot = SlotName::Plain(name.copy(alloc)?);
+    tables.holds_var_sets(); // for the proof
+    if tables.slot_of(object, &slot).is_some() {
+        tables.remove_property(object, &name)?;
+        return Ok(());
+    }
+    Err(Fail::new("no such slot"))
+}
+
+/// Removes the property of a path, or the object of a name.
+fn remove(alloc: Global, tables: &mut Tables, path: &str) -> Result<(), Fail> {
+    if let Some((object, name)) = path.split_once('.') {
+        return remove_slot(alloc, tables, object, name);
+    }
+    let Some(object) = tables.object_named(path) else {
+        return Err(Fail::new("no such object"));
+    };
+    tables.remove_object(object)?;
+    Ok(())
+}
+
+/// The path of the slot at a place; empty past the last.
+fn path_at(alloc: Global, tables: &Tables, place: u32) -> Result<String, Fail> {
+    match tables.slot_at(place) {
+        Some(slot) => Ok(tables.path_of(alloc, slot)?),
+        None => Ok(String::new(alloc)),
+    }
+}
+
+#[test]
+fn removes_what_is_asked(rt: HostRuntime) -> Result<(), Fail> {
+    for (path, first, second) in &REMOVALS {
+        let mut tables = three_slots(rt.alloc())?;
+        remove(rt.alloc(), &mut tables, path)?;
+        assert!(rt; path_at(rt.alloc(), &tables, 0)?.as_str() == *first);
+        assert!(rt; path_at(rt.alloc(), &tables, 1)?.as_str() == *second);
+    }
+    Ok(())
+}
+
+#[test]
+fn free_numbers_are_given_again(rt: HostRuntime) -> Result<(), Fail> {
+    let mut tables = three_slots(rt.alloc())?;
+    let b = slot_named(rt.alloc(), &tables, "B", "b")?;
+    let c = slot_named(rt.alloc(), &tables, "B", "c")?;
+    remove(rt.alloc(), &mut tables, "B.b")?;
+    add_line(rt.alloc(), &mut tables, "A.d Float")?;
+    assert!(rt; slot_named(rt.alloc(), &tables, "B", "c")? == c);
+    assert!(rt; slot_named(rt.alloc(), &tables, "A", "d")? == b);
     Ok(())
 }

@@ -17,8 +17,8 @@ use unit_signatures::{Unit, unit_named};
 
 /// Adds a VarSet.
 fn add_object(alloc: Global, tables: &mut Tables, name: &str, label: &str) -> Result<(), Fail>
-    requires { length tables.old.objects < 10000 }
-    ensures { OnOk result (length tables.new.objects ≡ length tables.old.objects + 1) }
+    requires { length tables.old.document.objects < 10000 }
+    ensures { OnOk result (length tables.new.document.objects ≡ length tables.old.document.objects + 1) }
 {
     if tables.object_named(name).is_some() {
         return Err(Fail::new("the name is taken"));
@@ -73,7 +73,7 @@ fn add_slot(
     if tables.resolve(object, &path).is_some() {
         return Err(Fail::new("the name is taken"));
     }
-    if tables.slot_limit() == u32::MAX {
+    if tables.slot_count() == u32::MAX {
         return Err(Fail::new("too many slots"));
     }
     tables.holds_var_sets(); // for the proof

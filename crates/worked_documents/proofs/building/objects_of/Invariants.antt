@@ -6,5 +6,5 @@ abbrev pub invariant-loop-line : goal.invariant-loop-line
 invariant-loop-line l =
     (goal.iterator-loop-line).can_next l.line-iterator
     × (goal.iterator-loop-line).is_finite l.line-iterator
-    × (length l.tables.objects ≡ l.count)
+    × (length l.tables.document.objects ≡ l.count)
     × (l.count ≤ 5000)
