@@ -4,8 +4,9 @@
 //! (`object_labelled`), by place (`object_at`, `slot_at`) and by number (`own_value`, `expression_of`,
 //! `deps_of`, `dependency_lists`), and is changed by five primitives (`add_object`, `add_property`,
 //! `set_rule`, `remove_property`, `remove_object`). Numbers of objects and slots stay as long as what
-//! they name, and are free then. `limits` has how large a document may be. What a document means, and
-//! which documents are refused, is not known here.
+//! they name, and are free then. `is_property_name` tells which names a property may be added under,
+//! `limits` how large a document may be. What a document means, and which documents are refused, is not
+//! known here.
 //!
 //! `docs/definitions.md` tells of `Numbered`, as which tables are seen. Rows are tried in
 //! `worked_documents/src/answers.rt`.
@@ -20,10 +21,12 @@ mod insertion;
 pub mod limits;
 mod numbers;
 mod objects;
+mod property_names;
 mod removals;
 mod rule;
 mod slots;
 mod tables;
 
+pub use property_names::is_property_name;
 pub use rule::Rule;
 pub use tables::Tables;

@@ -32,6 +32,7 @@ edits_work = record {
   box = refl;
   link = refl;
   label = refl;
+  float = refl;
   placement = refl;
   input = refl;
   other_input = refl;

@@ -35,8 +35,8 @@ pub record KindsWork : Type 0 where
       ≡ codes "Label" ∷ codes "Length" ∷ codes "Width" ∷ codes "Height" ∷ codes "Placement" ∷ codes "ExpressionEngine" ∷ []
   pub bounds : map (has_bounds linked_box) linked_box.objects ≡ true ∷ true ∷ true ∷ false ∷ false ∷ []
 
--- a new box has the defaults of its plan, a new link is at the origin; an edit changes one slot alone,
--- an input or a property
+-- a new box has the defaults of its plan, a new link is at the origin, a new property is in the group
+-- Base; an edit changes one slot alone, an input or a property
 pub record EditsWork : Type 0 where
   pub box :
       (new_object (codes "B") (codes "C") (Feature box_plan)).inputs
@@ -44,6 +44,17 @@ pub record EditsWork : Type 0 where
       ∷ (Plain (codes "Height"), Own (mm 10000000000)) ∷ origin
   pub link : (new_object (codes "B") (codes "C") Link).inputs ≡ origin ++ (Plain (codes "LinkTransform"), Own (Flag false)) ∷ []
   pub label : (new_object (codes "B") (codes "C") VarSet).label ≡ codes "C"
+  pub float :
+      new_property (codes "P") prop.Float
+      ≡ record {
+        name = codes "P";
+        prop = prop.Float;
+        status = record { read_only = false; hidden = false };
+        group = codes "Base";
+        doc = [];
+        attributes = [];
+        contents = Own (plain 0) ∷ [];
+      }
   pub placement : (new_property (codes "P") prop.Placement).contents ≡ Own (mm 0) ∷ Own (mm 0) ∷ Own (mm 0) ∷ Own (plain 0) ∷ []
   pub input : rule_of (with_content linked_box (named (codes "Box") (codes "Width")) (Own (mm 1))) (named (codes "Box") (codes "Width")) ≡ Some (own (mm 1))
   pub other_input :

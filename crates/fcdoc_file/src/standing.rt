@@ -2,41 +2,16 @@
 
 ghost use Rattle.std.specs.Prelude.{◌≡◌, nat_le, map, sum_by, length, IfOk};
 ghost use Rattle.std.specs.List.{list_all};
-ghost use Rattle.property_types.specs.Reserved.{are_distinct, is_reserved};
+ghost use Rattle.property_types.specs.Reserved.{are_distinct};
 ghost use Rattle.property_types.specs.SoundPlans.{is_property_name};
 ghost use Rattle.fcdoc_file.specs.FirstForm.{has_own_names, is_within_limits, stands_together};
 ghost use Rattle.fcdoc_file.specs.Rows.{object_of};
 
 use crate::var_set::{FloatProperty, Named, VarSet};
+use doc_tables::is_property_name;
 use doc_tables::limits::{MOST_OBJECTS, MOST_SLOTS};
-use fc_base::Name;
 use indexmap::IndexSet;
 use std::alloc::{AllocError, Global};
-
-/// Whether the document keeps the name for itself, so that no property has it.
-fn is_reserved(name: &str) -> bool
-    ensures { result ≡ is_reserved name.now }
-{
-    matches!(
-        name,
-        "Label"
-            | "ExpressionEngine"
-            | "Placement"
-            | "LinkTransform"
-            | "LinkedObject"
-            | "Links"
-            | "Global"
-            | "cells"
-            | "Overrides"
-    )
-}
-
-/// Whether a property may have the name.
-fn is_property_name(name: &Name) -> bool
-    ensures { result ≡ is_property_name name.now }
-{
-    !is_reserved(name.as_str())
-}
 
 /// Whether each property has a name that properties may have.
 fn have_property_names(properties: &[FloatProperty]) -> bool

@@ -2,18 +2,19 @@
 ghost use Rattle.std.specs.Prelude.{◌≡◌, ◌+◌, ◌<◌, length, IfOk, IsSome, OnOk};
 ghost use Rattle.object_paths.specs.declared.path.Owner.TheVariants.{Here};
 ghost use Rattle.object_paths.specs.declared.slot_name.SlotName.TheVariants.{Plain};
+ghost use Rattle.document_model.specs.declared.content.Content.TheVariants.{Own};
+ghost use Rattle.document_model.specs.Contents.{IsContentOf};
 ghost use Rattle.doc_tables.specs.Numbered.{slot_at};
 
-use doc_tables::Tables;
+use doc_tables::{Tables, is_property_name};
 use document_model::{Content, ObjectKind};
 use expr_grammar::parse;
-use fc_base::{Label, Name, SlotId, TextValue};
+use fc_base::{Label, Name, SlotId};
 use object_paths::{Owner, Path, SlotName};
 use property_types::{PropType, Value};
 use quantities::{Quantity, read_decimal};
 use std::alloc::{AllocError, Global};
 use std::test::Fail;
-use unit_signatures::{Unit, unit_named};
 
 /// Adds a VarSet.
 fn add_object(alloc: Global, tables: &mut Tables, name: &str, label: &str) -> Result<(), Fail>
@@ -62,13 +63,16 @@ fn add_slot(
     name: &str,
     prop: PropType,
 ) -> Result<(), Fail> {
-    if let PropType::Placement = prop {
-        return Err(Fail::new("it has four slots"));
+    if matches!(prop, PropType::Placement | PropType::Turn) {
+        return Err(Fail::new("no type of a slot"));
     }
     let Some(object) = tables.object_named(object) else {
         return Err(Fail::new("no such object"));
     };
     let name = Name::read(alloc, name)?;
+    if !is_property_name(&name) {
+        return Err(Fail::new("the name is reserved"));
+    }
     let path = own_path(alloc, &name)?;
     if tables.resolve(object, &path).is_some() {
         return Err(Fail::new("the name is taken"));
@@ -110,26 +114,24 @@ fn bind(
     Ok(())
 }
 
-/// A value, such as `2.5`, `2.5 mm`, `true` or `<<a text>>`.
-fn value_of(alloc: Global, text: &str) -> Result<Value, Fail> {
-    if text == "true" {
-        return Ok(Value::Flag(true));
+/// A number in the unit of a type, such as `2.5`.
+fn number_of(alloc: Global, prop: PropType, text: &str) -> Result<Value, Fail>
+    ensures { IfOk result (λ value. IsContentOf prop (Own value)) }
+{
+    if let PropType::Placement = prop {
+        return Err(Fail::new("it has four slots"));
     }
-    if let Some(text) = text.strip_prefix("<<") {
-        let text = text.strip_suffix(">>").ok_or("no end of a text")?;
-        return Ok(Value::Text(TextValue::read(alloc, text)?));
-    }
-    let (amount, unit) = text.split_once(' ').unwrap_or((text, ""));
-    let amount = read_decimal(amount.as_bytes())?;
-    let unit = match unit_named(unit) {
-        Some((_, unit)) => unit,
-        None => Unit::pure(),
+    let amount = read_decimal(text.as_bytes())?;
+    let _ = amount.raw(); // for the proof
+    let Value::Number(zero) = prop.zero(alloc)? else {
+        return Err(Fail::new("no number"));
     };
+    let unit = zero.unit;
     Ok(Value::Number(Quantity { amount, unit }))
 }
 
-/// Puts a value into a slot.
-fn put_value(
+/// Puts a number into a slot.
+fn put_number(
     alloc: Global,
     tables: &mut Tables,
     object: &str,
@@ -137,7 +139,8 @@ fn put_value(
     text: &str,
 ) -> Result<(), Fail> {
     let slot = slot_named(alloc, tables, object, name)?;
-    let value = value_of(alloc, text)?;
+    let prop = tables.type_of(slot).ok_or("it has no type")?;
+    let value = number_of(alloc, *prop, text)?;
     tables.set_rule(slot, Content::Own(value))?;
     Ok(())
 }
@@ -156,13 +159,13 @@ fn add_typed(
 }
 
 /// Adds the slot of a line: `A.a Float` with zero in it, `A.a Float = b + 1` with an expression, or
-/// `A.a Length := 2.5 mm` with a value of its own.
+/// `A.a Length := 2.5` with a number of its own, in the unit of its type.
 pub fn add_line(alloc: Global, tables: &mut Tables, line: &str) -> Result<(), Fail> {
     let (path, told) = line.split_once(' ').ok_or("no type")?;
     let (object, name) = path.split_once('.').ok_or("no slot")?;
-    if let Some((prop, value)) = told.split_once(" := ") {
+    if let Some((prop, number)) = told.split_once(" := ") {
         add_typed(alloc, tables, object, name, prop)?;
-        return put_value(alloc, tables, object, name, value);
+        return put_number(alloc, tables, object, name, number);
     }
     if let Some((prop, expression)) = told.split_once(" = ") {
         add_typed(alloc, tables, object, name, prop)?;

@@ -9,7 +9,7 @@ use std::test::Fail;
 type FirstFault = Option<(u8, &'static str)>;
 
 /// A document's first fault, its objects and its slots.
-static FAULTS: [(FirstFault, &str, &str); 42] = [
+static FAULTS: [(FirstFault, &str, &str); 39] = [
     // A label that an earlier object has.
     (None, "A\nB", ""),
     (Some((6, "B")), "A\nB A", ""),
@@ -65,26 +65,23 @@ static FAULTS: [(FirstFault, &str, &str); 42] = [
     // Numbers of another unit.
     (Some((15, "A.a")), "A", "A.a Float = 1 mm"),
     (Some((15, "A.a")), "A", "A.a Length = 1 mm + 2"),
-    (Some((15, "A.a")), "A", "A.a Length := 2"),
     (Some((15, "A.b")), "A", "A.a Length = 2\nA.b Mass = a"),
     (Some((15, "A.b")), "A", "A.a Length\nA.b Bool = a == 1 s"),
     (
         None,
         "A",
-        "A.a Length = 2\nA.b Area = a * (1 mm)\nA.c Length := 2 mm",
+        "A.a Length = 2\nA.b Area = a * (1 mm)\nA.c Length := 2",
     ),
     // Numbers, flags and texts mixed up.
     (Some((16, "A.a")), "A", "A.a Float = true"),
     (Some((16, "A.a")), "A", "A.a Bool = 1"),
     (Some((16, "A.a")), "A", "A.a String = 1"),
-    (Some((16, "A.a")), "A", "A.a Length := true"),
-    (Some((16, "A.a")), "A", "A.a Bool := <<a>>"),
     (
         Some((16, "A.a")),
         "A",
         "A.a Float = b + 1\nA.b Float = <<a>>",
     ),
-    (None, "A", "A.a Bool = b == <<a>>\nA.b String := <<a>>"),
+    (None, "A", "A.a Bool = b == <<a>>\nA.b String"),
     // A unit with an exponent that is out of range.
     (Some((17, "A.a")), "A", "A.a Float = 1 mm^8"),
     (
@@ -108,7 +105,7 @@ static FAULTS: [(FirstFault, &str, &str); 42] = [
     (
         Some((10, "A.b")),
         "A",
-        "A.a Distance := -1 mm\nA.b Length := -1 mm",
+        "A.a Distance := -1\nA.b Length := -1",
     ),
     (None, "A", "A.a Percent = 101"),
 ];
