@@ -33,8 +33,8 @@ fn check_within_limits(alloc: Global, tables: &Tables, listed: &[SlotId]) -> Res
 /// (UnitMismatch, KindMismatch, ExponentRange, 15 to 17), and an own value outside its type
 /// (OutOfRange, 10); of each kind the first in the document.
 ///
-/// It grows with the slots, nodes and dependencies of the document, and with the square of its
-/// objects, whose labels are compared.
+/// It grows with the slots, nodes and dependencies of the document, and little faster than its
+/// objects, each of whose labels is searched for.
 pub fn check(alloc: Global, tables: &Tables) -> Result<(), CheckFault>
     ensures { MeetsFault (first_fault tables.now.document) result }
 {

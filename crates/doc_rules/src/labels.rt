@@ -35,8 +35,8 @@ fn check_label(alloc: Global, tables: &Tables, object: ObjectId) -> Result<(), C
     Ok(())
 }
 
-/// LabelTaken of the first object whose label an earlier one has. For each object the labels before
-/// its own are looked at, so this grows with the square of the number of objects.
+/// LabelTaken of the first object whose label an earlier one has. Each label is searched for once, so this
+/// grows little faster than the number of objects.
 pub fn check_labels(alloc: Global, tables: &Tables) -> Result<(), CheckFault>
     ensures { MeetsFault (label_faults tables.now.document) result }
 {

@@ -10,6 +10,7 @@ use Rattle.std.proofs.lemmas.List.Concat.{length-flat_map}
 use Rattle.std.proofs.lemmas.Option.{slice_get-map}
 use Rattle.std.proofs.lemmas.Simd.{map-map}
 use Rattle.fc_base.specs.Texts.{is_label, is_name}
+use Rattle.fc_base.specs.declared.ids.ObjectId.{ObjectId}
 use Rattle.indexmap.specs.IndexMap.{get}
 use Rattle.object_paths.specs.declared.slot_name.SlotName.TheVariants.{Plain}
 use Rattle.object_paths.specs.Slots.{Slot, same_text}
@@ -30,14 +31,16 @@ use Rattle.doc_tables.specs.declared.entry.SlotPlace.{SlotPlace}
 use Rattle.doc_tables.specs.declared.tables.Tables.TheInside.{Inside}
 use Rattle.doc_tables.specs.Entries.{HasFewReferences}
 use Rattle.doc_tables.specs.Held.{property_held, object_held, object_numbered, slot_of_key, slots_of_keys, document_held, entry_at, place_of_key, numbered_held, IsHeld}
+use Rattle.doc_tables.specs.Labels.{AreByLabel}
 use Rattle.doc_tables.specs.Numbered.{Numbered, LeadsTo, at_number, name_at, object_at, slot_at}
 use Rattle.doc_tables.specs.Primitives.{IsContentAt, lacks_property}
 use Rattle.doc_tables.specs.Shown.{Shown, shown, change_at, with_entry, object_with}
 use Rattle.doc_tables.specs.Table.{HasRoom, IsTable}
 use Rattle.doc_tables.proofs.ChangeLemmas.{one_more, more-entries, more-document, more-numbers, more-slots, one_filled, filled-entries, filled-document, filled-numbers, slots-filled, one_written, written-entries, written-document, written-numbers, written-slots}
+use Rattle.doc_tables.proofs.ChangeLists.{map-change}
 use Rattle.doc_tables.proofs.CountLemmas.{slots-counted, sum_by-map, sum_by-same}
 use Rattle.doc_tables.proofs.Finding.{find-map, find-same, lookup-find, placed-key, same_text-sym}
-use Rattle.doc_tables.proofs.HeldBy.{document-shown, document-of, entries-shown, names-shown, number_by, slots_by, slots-shown, still-held}
+use Rattle.doc_tables.proofs.HeldBy.{document-shown, document-of, entries-shown, labelled_by, labels-shown, names-shown, number_by, slots_by, slots-shown, still-held}
 use Rattle.doc_tables.proofs.HeldLemmas.{KeyAt, Named, Owned, Owns, key-at, key-place, object-found, one_slot, owner-looked, owns-held, slot_named, used-read, entry-held}
 use Rattle.doc_tables.proofs.TableLemmas.{apart, at_number-map, grown-into, grown-kept, grown-new, pushed-into, pushed-new, room-more, table-count, table-more, used-within}
 use Rattle.document_model.proofs.FormLemmas.{IsObject-new_object, IsProperty-new_property, IsWellFormed-with_object, IsWellFormed-with_property}
@@ -153,13 +156,14 @@ module _ (v : Numbered) (t : Inside) (held : IsHeld t) (is : numbered_held t ≡
 
   -- the same document with the same numbers
   module _ (u : Inside) (objects : map shown u.objects.entries ≡ map shown t.objects.entries) (names : u.object_names.items ≡ t.object_names.items) (keys : u.slot_keys.items ≡ t.slot_keys.items)
-      (next_object : u.free_object ≡ t.free_object) (next_slot : u.free_slot ≡ t.free_slot) where
+      (next_object : u.free_object ≡ t.free_object) (next_slot : u.free_slot ≡ t.free_slot) (numbers : u.by_label.items ≡ t.by_label.items) where
     pub kept-held : IsHeld u
     kept-held =
         let os = map shown t.objects.entries in
         still-held u os objects (entries-shown t held)
         (subst (λ (l : List (Option (List ℕ))). IsTable l (map number_by os)) (sym names) (names-shown t held))
         (subst (λ (l : List (Option SlotKey)). IsTable (slots_of_keys l) (flat_map slots_by os)) (sym keys) (slots-shown t held))
+        (subst (λ (ids : List ObjectId). AreByLabel ids (map labelled_by os)) (sym numbers) (labels-shown t held))
         (subst (HasRoom u.object_names.items) (sym next_object) (subst (λ (l : List (Option (List ℕ))). HasRoom l t.free_object) (sym names) held.object_room))
         (subst (HasRoom (slots_of_keys u.slot_keys.items)) (sym next_slot) (subst (λ (l : List (Option SlotKey)). HasRoom (slots_of_keys l) t.free_slot) (sym keys) held.slot_room))
         (subst IsWellFormed (sym (document-of u os objects ∙ sym (document-shown t.objects.entries))) held.form)
@@ -191,8 +195,8 @@ module _ (v : Numbered) (t : Inside) (held : IsHeld t) (is : numbered_held t ≡
         }
 
     pub added-held : length v.document.objects + 1 < 2 ^ 32 → length u.object_names.items < 2 ^ 32 → u.free_object ≡ n + 1 → u.free_slot ≡ t.free_slot
-        → IsTrue (is_name name) → IsTrue (is_label label) → IsHeld u
-    added-held few small next_object next_slot named labelled =
+        → IsTrue (is_name name) → IsTrue (is_label label) → AreByLabel u.by_label.items (map labelled_by (one_more (map shown t.objects.entries) name label n)) → IsHeld u
+    added-held few small next_object next_slot named labelled labels =
         let os = map shown t.objects.entries in
         let count : length (map object_held t.objects.entries) ≡ length v.document.objects = ap (λ (w : Numbered). length w.document.objects) is in
         still-held u (one_more os name label n) objects
@@ -202,6 +206,7 @@ module _ (v : Numbered) (t : Inside) (held : IsHeld t) (is : numbered_held t ≡
         (λ x i. pushed-into (map number_by os) (n, name) x i) (λ x i. IsIn-left (map number_by os) ((n, name) ∷ []) x i) (pushed-new (map number_by os) (n, name))))
         (subst (IsTable (slots_of_keys u.slot_keys.items)) (sym (more-slots os name label n))
         (subst (λ (l : List (Option SlotKey)). IsTable (slots_of_keys l) (flat_map slots_by os)) (sym keys) (slots-shown t held)))
+        labels
         (subst (HasRoom u.object_names.items) (sym next_object)
         (room-more t.object_names.items u.object_names.items n name (λ m k. ap is_some (names-are v t held is m) ∙ used m k) here others small))
         (subst (HasRoom (slots_of_keys u.slot_keys.items)) (sym next_slot) (subst (λ (l : List (Option SlotKey)). HasRoom (slots_of_keys l) t.free_slot) (sym keys) held.slot_room))
@@ -301,14 +306,16 @@ module _ (v : Numbered) (t : Inside) (held : IsHeld t) (is : numbered_held t ≡
             }
 
         pub filled-held : ((m : ℕ) → m < entry.slot.0 → IsSome (slot_at v m)) → length (slots v.document) + 1 < 2 ^ 32 → length u.slot_keys.items < 2 ^ 32 → u.free_object ≡ t.free_object → u.free_slot ≡ entry.slot.0 + 1
-            → IsTrue (is_dynamic_name VarSet name) → IsTrue (is_added_type entry.prop) → IsHeld u
-        filled-held used few small next_object next_slot named added =
+            → IsTrue (is_dynamic_name VarSet name) → IsTrue (is_added_type entry.prop) → u.by_label.items ≡ t.by_label.items → IsHeld u
+        filled-held used few small next_object next_slot named added numbers =
             still-held u (one_filled os i (shown o) name entry) objects
             (filled-entries os i (shown o) name entry shown-at (entries-shown t held) (record { one_slot = one; references = few-references }) no-name
             (omega (arith, slots-counted v t held is, sum_by-map (λ (x : Shown). length x.2) shown t.objects.entries)))
             (subst (IsTable u.object_names.items) (sym (filled-numbers os i (shown o) name entry))
             (subst (λ (l : List (Option (List ℕ))). IsTable l (map number_by os)) (sym names) (names-shown t held)))
             slots-more
+            (subst (AreByLabel u.by_label.items) (sym (map-change labelled_by (with_entry (name, entry)) (λ x. refl) i os))
+            (subst (λ (ids : List ObjectId). AreByLabel ids (map labelled_by os)) (sym numbers) (labels-shown t held)))
             (subst (HasRoom u.object_names.items) (sym next_object) (subst (λ (l : List (Option (List ℕ))). HasRoom l t.free_object) (sym names) held.object_room))
             (subst (HasRoom after) (sym next_slot)
             (room-more before after entry.slot.0 slot (λ m k. ap (λ (w : Numbered). is_some (slot_at w m)) is ∙ used m k) slot-here other-slots
@@ -373,8 +380,8 @@ module _ (v : Numbered) (t : Inside) (held : IsHeld t) (is : numbered_held t ≡
       own-type : option_and_then (type_of v.document) (slot_at v n) ≡ Some k.at.entry.1.prop
       own-type = subst (λ (w : Numbered). option_and_then (type_of w.document) (slot_at w n) ≡ Some k.at.entry.1.prop) is (entry-held t held n k.at).type
 
-      pub written-held : HasFewReferences new → u.free_object ≡ t.free_object → u.free_slot ≡ t.free_slot → IsContentAt v n new → IsHeld u
-      written-held few next_object next_slot fits =
+      pub written-held : HasFewReferences new → u.free_object ≡ t.free_object → u.free_slot ≡ t.free_slot → IsContentAt v n new → u.by_label.items ≡ t.by_label.items → IsHeld u
+      written-held few next_object next_slot fits numbers =
           let os : List Shown = map shown t.objects.entries in
           let o : Shown = shown k.at.owner in
           let e : Named = k.at.entry in
@@ -384,6 +391,8 @@ module _ (v : Numbered) (t : Inside) (held : IsHeld t) (is : numbered_held t ≡
           (subst (λ (l : List (Option (List ℕ))). IsTable l (map number_by os)) (sym names) (names-shown t held)))
           (subst (IsTable (slots_of_keys u.slot_keys.items)) (sym (written-slots os p.object p.property o e new))
           (subst (λ (l : List (Option SlotKey)). IsTable (slots_of_keys l) (flat_map slots_by os)) (sym keys) (slots-shown t held)))
+          (subst (AreByLabel u.by_label.items) (sym (map-change labelled_by (object_with new p.property) (λ x. refl) p.object os))
+          (subst (λ (ids : List ObjectId). AreByLabel ids (map labelled_by os)) (sym numbers) (labels-shown t held)))
           (subst (HasRoom u.object_names.items) (sym next_object) (subst (λ (l : List (Option (List ℕ))). HasRoom l t.free_object) (sym names) held.object_room))
           (subst (HasRoom (slots_of_keys u.slot_keys.items)) (sym next_slot) (subst (λ (l : List (Option SlotKey)). HasRoom (slots_of_keys l) t.free_slot) (sym keys) held.slot_room))
           (subst IsWellFormed (sym (written-leads own-slot own-found).document)

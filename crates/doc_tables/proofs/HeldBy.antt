@@ -13,6 +13,7 @@ use Rattle.document_model.specs.WellFormed.{IsWellFormed}
 use Rattle.document_model.specs.Edited.{new_object}
 use Rattle.doc_tables.specs.declared.tables.Tables.TheInside.{Inside}
 use Rattle.doc_tables.specs.Held.{property_held, slots_numbered, slots_of_keys, document_held, IsPropertyHeld, IsObjectHeld, IsHeld}
+use Rattle.doc_tables.specs.Labels.{AreByLabel, Labelled}
 use Rattle.doc_tables.specs.Shown.{Shown, shown}
 use Rattle.doc_tables.specs.Table.{HasRoom, IsTable}
 use Rattle.doc_tables.proofs.CountLemmas.{sum_by-map}
@@ -31,6 +32,10 @@ number_by o = (o.3, o.0)
 -- the numbers and the slots of its properties
 abbrev pub slots_by : Shown → List (ℕ × Slot)
 slots_by o = map (λ (e : Named). (e.1.slot.0, record { object = o.0; name = Plain e.0 })) o.2
+
+-- the label and the number of an object
+abbrev pub labelled_by : Shown → Labelled
+labelled_by o = (o.1, record { 0 = o.3 })
 
 pub record IsObjectBy (o : Shown) : Type 0 where
   pub distinct : IsDistinct (pointwise nat_eq) (keys_of o.2)
@@ -75,12 +80,16 @@ module _ (t : Inside) where
   pub slots-shown : IsHeld t → IsTable (slots_of_keys t.slot_keys.items) (flat_map slots_by (map shown t.objects.entries))
   slots-shown h = subst (IsTable (slots_of_keys t.slot_keys.items)) (flat-shown t.objects.entries) h.slot_numbers
 
+  pub labels-shown : IsHeld t → AreByLabel t.by_label.items (map labelled_by (map shown t.objects.entries))
+  labels-shown h = subst (AreByLabel t.by_label.items) (sym (map-map labelled_by shown t.objects.entries)) h.labels
+
   -- tables that show these entries hold them
   module _ (objects : List Shown) (same : map shown t.objects.entries ≡ objects) where
     pub still-held :
         AreEntries objects → IsTable t.object_names.items (map number_by objects) → IsTable (slots_of_keys t.slot_keys.items) (flat_map slots_by objects)
+        → AreByLabel t.by_label.items (map labelled_by objects)
         → HasRoom t.object_names.items t.free_object → HasRoom (slots_of_keys t.slot_keys.items) t.free_slot → IsWellFormed (document_held t.objects.entries) → IsHeld t
-    still-held h names slots object_room slot_room form =
+    still-held h names slots labels object_room slot_room form =
         let es = t.objects.entries in
         let own : AreEntries (map shown es) = subst AreEntries (sym same) h in
         record {
@@ -94,6 +103,9 @@ module _ (t : Inside) where
           slot_numbers =
               subst (IsTable (slots_of_keys t.slot_keys.items)) (sym (flat-shown es))
               (subst (λ (l : List Shown). IsTable (slots_of_keys t.slot_keys.items) (flat_map slots_by l)) (sym same) slots);
+          labels =
+              subst (AreByLabel t.by_label.items) (map-map labelled_by shown es)
+              (subst (λ (l : List Shown). AreByLabel t.by_label.items (map labelled_by l)) (sym same) labels);
           object_room = object_room;
           slot_room = slot_room;
           form = form;

@@ -8,6 +8,7 @@ pub mod HeldLemmas
 pub mod ResolveLemmas
 pub mod DependencyLemmas
 pub mod ListLemmas
+pub mod LabelLemmas
 pub mod VarSetsHeld
 pub mod FoundHeld
 pub mod NumberedHeld
@@ -23,4 +24,5 @@ pub mod CopyLemmas
 pub mod AddedLemmas
 pub mod RemoveLists
 pub mod RemoveLemmas
+pub mod LabelsHeld
 pub mod RemoveHeld

@@ -12,10 +12,15 @@ use Rattle.document_model.specs.Document.{Object, object_labelled, object_named}
 use Rattle.doc_tables.specs.declared.entry.ObjectEntry.{ObjectEntry}
 use Rattle.doc_tables.specs.declared.tables.Tables.TheInside.{Inside}
 use Rattle.doc_tables.specs.Accessors.{AreNumbersOf, IsNumberOf, IsNumberOfObject}
+use Rattle.fc_base.specs.Graph.{IsIn}
+use Rattle.doc_tables.specs.Entries.{IsEntryFor}
+use Rattle.doc_tables.specs.FindsAll.{FindsAll}
+use Rattle.doc_tables.specs.Labels.{first_of_label}
 use Rattle.doc_tables.specs.Held.{object_held, document_held, numbered_held, IsHeld}
 use Rattle.doc_tables.specs.Numbered.{Numbered, at_number, name_at, object_at, slot_at}
 use Rattle.doc_tables.proofs.Finding.{find-map, find-place, find-position}
-use Rattle.doc_tables.proofs.HeldLemmas.{Owned, Owns, name_at-held, object-found, owner-looked, owns-held}
+use Rattle.doc_tables.proofs.LabelsHeld.{label-found}
+use Rattle.doc_tables.proofs.HeldLemmas.{Owned, Owns, in-at, name_at-held, object-found, owner-looked, owns-held}
 
 -- the slot at a place has the number at that place
 pub number-at : (t : Numbered) (ids : List SlotId) (all : List Slot) (k : ℕ) → AreNumbersOf t ids all → IsNumberOf t (slice_get ids k) (slice_get all k)
@@ -31,6 +36,10 @@ module _ (t : Inside) (held : IsHeld t) where
   number-found None there = refl
   number-found (Some o) there = let i = there o refl in ap Some (name_at-held t held i.0 o i.1)
 
+  entry-number : (f : Option Owned) → ((o : Owned) → f ≡ Some o → (i : ℕ) × (slice_get t.objects.entries i ≡ Some o)) → IsNumberOfObject (numbered_held t) (option_map (λ (o : Owned). o.1.number) f) (option_map object_held f)
+  entry-number None there = refl
+  entry-number (Some o) there = let i = there o refl in ap Some (name_at-held t held i.0 o i.1)
+
   -- the object that a search finds has the number of its entry
   searched-number : (test : Owned → Bool) → IsNumberOfObject (numbered_held t) (number_found (option_and_then (slice_get t.objects.entries) (position test t.objects.entries))) (option_map object_held (find test t.objects.entries))
   searched-number test =
@@ -42,15 +51,30 @@ module _ (t : Inside) (held : IsHeld t) where
       searched-number (λ o. same_text o.0 name)
       ∙ ap (option_map (λ (o : Object). Some o.name)) (sym (find-map object_held (λ q. same_text q.name name) t.objects.entries))
 
-  labelled-held : (label : List ℕ) → IsNumberOfObject (numbered_held t) (number_found (option_and_then (slice_get t.objects.entries) (position (λ (o : Owned). same_text o.1.label label) t.objects.entries))) (object_labelled (document_held t.objects.entries) label)
+  labelled-held : (label : List ℕ) → IsNumberOfObject (numbered_held t) (option_map (λ (o : Owned). o.1.number) (find (λ (o : Owned). same_text o.1.label label) t.objects.entries)) (object_labelled (document_held t.objects.entries) label)
   labelled-held label =
-      searched-number (λ o. same_text o.1.label label)
+      entry-number (find (λ (o : Owned). same_text o.1.label label) t.objects.entries) (λ o h. find-place (λ (q : Owned). same_text q.1.label label) t.objects.entries o h)
       ∙ ap (option_map (λ (o : Object). Some o.name)) (sym (find-map object_held (λ q. same_text q.label label) t.objects.entries))
 
   placed-held : (k : ℕ) → IsNumberOfObject (numbered_held t) (number_found (slice_get t.objects.entries k)) (slice_get (map object_held t.objects.entries) k)
   placed-held k =
       number-found (slice_get t.objects.entries k) (λ o h. (k, h))
       ∙ ap (option_map (λ (o : Object). Some o.name)) (sym (slice_get-map object_held t.objects.entries k))
+
+found-in : {A : Type 0} (p : A → Bool) (xs : List A) (x : A) → find p xs ≡ Some x → IsIn x xs
+found-in p xs x h = let i = find-place p xs x h in in-at xs i.0 x i.1
+
+-- the object of a label has the entry of its number
+pub labelled-entry : (v : Numbered) (finds : FindsAll v.document) (label : List ℕ) (id : ObjectId) (found : ObjectEntry) → IsNumberOfObject v (Some id) (object_labelled v.document label) → IsEntryFor v (object_at v id.0) (Some found)
+    → IsEntryFor v (object_labelled v.document label) (Some found)
+labelled-entry v finds label id found n e = of (object_labelled v.document label) refl n
+  where
+    of : (o : Option Object) → object_labelled v.document label ≡ o → IsNumberOfObject v (Some id) o → IsEntryFor v o (Some found)
+    of None at n = absurd (cc)
+    of (Some o) at n =
+        let named : name_at v id.0 ≡ Some o.name = cc in
+        let same : object_at v id.0 ≡ Some o = ap (option_and_then (object_named v.document)) named ∙ finds.objects o (found-in (λ (q : Object). same_text q.label label) v.document.objects o at) in
+        subst (λ (q : Option Object). IsEntryFor v q (Some found)) same e
 
 -- of what tables show
 module _ (v : Numbered) (t : Inside) (held : IsHeld t) (is : numbered_held t ≡ v) where
@@ -64,11 +88,10 @@ module _ (v : Numbered) (t : Inside) (held : IsHeld t) (is : numbered_held t ≡
       subst (λ (w : Numbered). IsNumberOfObject w id (object_named w.document name)) is
       (ap (option_map (λ (x : ObjectId). name_at (numbered_held t) x.0)) (number-told place entry id e h ∙ ap (λ (p : Option ℕ). number_found (option_and_then (slice_get t.objects.entries) p)) at) ∙ named-held t held name)
 
-  pub labelled-number : (label : List ℕ) (place : Option ℕ) (entry : Option ObjectEntry) (id : Option ObjectId) → place ≡ position (λ (o : Owned). same_text o.1.label label) t.objects.entries
-      → entry ≡ option_map (λ (o : Owned). o.1) (option_and_then (slice_get t.objects.entries) place) → id ≡ option_map (λ (e : ObjectEntry). e.number) entry → IsNumberOfObject v id (object_labelled v.document label)
-  labelled-number label place entry id at e h =
+  pub labelled-number : (label : List ℕ) (id : Option ObjectId) → id ≡ first_of_label t.object_names.items t.objects.entries label t.by_label.items → IsNumberOfObject v id (object_labelled v.document label)
+  labelled-number label id h =
       subst (λ (w : Numbered). IsNumberOfObject w id (object_labelled w.document label)) is
-      (ap (option_map (λ (x : ObjectId). name_at (numbered_held t) x.0)) (number-told place entry id e h ∙ ap (λ (p : Option ℕ). number_found (option_and_then (slice_get t.objects.entries) p)) at) ∙ labelled-held t held label)
+      (ap (option_map (λ (x : ObjectId). name_at (numbered_held t) x.0)) (h ∙ label-found t held label) ∙ labelled-held t held label)
 
   pub place-number : (k : ℕ) (entry : Option ObjectEntry) (id : Option ObjectId) → entry ≡ option_map (λ (o : Owned). o.1) (slice_get t.objects.entries k) → id ≡ option_map (λ (e : ObjectEntry). e.number) entry
       → IsNumberOfObject v id (slice_get v.document.objects k)

@@ -1,17 +1,18 @@
 -- What tables show after a removal.
-use Rattle.std.proofs.Common.{◌≡◌, ◌^◌, ◌<◌, ◌≤◌, ◌||◌, ℕ, Bool, true, false, not, cond, nat_eq, min, List, [], ◌∷◌, map, length, position, slice_get, sum_by, Option, Some, None, IfSome, IsSome, IsTrue, is_some, refl, sym, ap, subst, ◌∙◌, arith}
+use Rattle.std.proofs.Common.{◌≡◌, ◌^◌, ◌<◌, ◌||◌, ℕ, Bool, true, false, not, cond, nat_eq, min, List, [], ◌∷◌, map, length, position, slice_get, sum_by, Option, Some, None, IfSome, IsSome, IsTrue, is_some, refl, sym, ap, subst, ◌∙◌, arith}
 use Rattle.std.specs.Cmp.Lexicographic.{pointwise}
-use Rattle.std.specs.List.{flat_map, list_any, AllByRecursion, IsDistinct}
+use Rattle.std.specs.List.{filter, flat_map, list_any, AllByRecursion, IsDistinct}
 use Rattle.std.specs.Map.{keys_of, lookup, remove_entry}
 use Rattle.std.specs.Option.{option_map, option_map_or}
 use Rattle.std.proofs.lemmas.Bool.{false≢true}
 use Rattle.std.proofs.lemmas.List.{length-map}
 use Rattle.indexmap.specs.IndexMap.{get, IsUnique}
 use Rattle.fc_base.specs.Graph.{IsIn}
+use Rattle.fc_base.specs.declared.ids.ObjectId.{ObjectId}
 use Rattle.fc_base.specs.declared.ids.SlotId.{SlotId}
 use Rattle.object_paths.specs.declared.slot_name.SlotName.TheVariants.{Plain}
 use Rattle.object_paths.specs.Slots.{Slot, same_text}
-use Rattle.document_model.specs.Document.{Document, Object, Property}
+use Rattle.document_model.specs.Document.{Object, Property}
 use Rattle.document_model.specs.WellFormed.{IsWellFormed}
 use Rattle.document_model.specs.Edited.{without_object, without_property}
 use Rattle.document_model.proofs.Members.{from_flat_map, from_map, IsIn-flat_map, IsIn-map}
@@ -20,15 +21,18 @@ use Rattle.doc_tables.specs.declared.entry.PropertyEntry.{PropertyEntry}
 use Rattle.doc_tables.specs.declared.entry.SlotKey.{SlotKey}
 use Rattle.doc_tables.specs.declared.tables.Tables.TheInside.{Inside}
 use Rattle.doc_tables.specs.Held.{property_held, object_held, object_numbered, slot_of_key, slots_numbered, slots_of_keys, document_held, numbered_held, IsObjectHeld, IsHeld}
-use Rattle.doc_tables.specs.Numbered.{Numbered, Keeps, LeadsTo, at_number, name_at, object_at, slot_at}
+use Rattle.doc_tables.specs.Labels.{AreByLabel, labelled}
+use Rattle.doc_tables.specs.Numbered.{Numbered, Keeps, LeadsTo, at_number, name_at}
 use Rattle.doc_tables.specs.Primitives.{lacks_property}
 use Rattle.doc_tables.specs.Shown.{Shown, shown, change_at, without_entry}
 use Rattle.doc_tables.specs.Table.{freed_at, HasRoom, IsTable}
 use Rattle.document_model.proofs.FormLemmas.{IsWellFormed-without_object, IsWellFormed-without_property}
-use Rattle.doc_tables.proofs.ChangeHeld.{any-name, found, found-object, names-are, not-true, o, shown-at}
+use Rattle.doc_tables.proofs.ChangeHeld.{any-name, found, found-object, names-are, o, shown-at}
+use Rattle.doc_tables.proofs.ChangeLists.{map-change}
 use Rattle.doc_tables.proofs.Finding.{same-place, same_text-refl}
-use Rattle.doc_tables.proofs.HeldBy.{document-of, document-shown, entries-shown, names-shown, number_by, slots_by, slots-shown, still-held, IsObjectBy}
+use Rattle.doc_tables.proofs.HeldBy.{document-of, document-shown, entries-shown, labelled_by, labels-shown, names-shown, number_by, slots_by, slots-shown, still-held, IsObjectBy}
 use Rattle.doc_tables.proofs.HeldLemmas.{Named, Owned, Owns, all_at, in-at, owner-looked, owns-held, place-in}
+use Rattle.doc_tables.proofs.LabelsHeld.{labels-left}
 use Rattle.doc_tables.proofs.NumberedHeld.{shrunk-keeps}
 use Rattle.doc_tables.proofs.RemoveLemmas.{one_less, less-document, less-entries, less-numbers}
 use Rattle.doc_tables.proofs.RemoveLists.{changed-at, left-all, left-apart, left-filtered, left-in, left-length, left-sum, looked-in, others-left, shrunk-into, shrunk-kept}
@@ -181,7 +185,7 @@ module _ (v : Numbered) (t : Inside) (held : IsHeld t) (is : numbered_held t ≡
 
       module _ (u : Inside) (objects : map shown u.objects.entries ≡ change_at (without_entry name) i os) (names : u.object_names.items ≡ t.object_names.items)
           (freed : (m : ℕ) → at_number u.slot_keys.items m ≡ cond (nat_eq m slot.0) None (at_number t.slot_keys.items m)) (same : length u.slot_keys.items ≡ length t.slot_keys.items)
-          (next_object : u.free_object ≡ t.free_object) (next_slot : u.free_slot ≡ min t.free_slot slot.0) where
+          (next_object : u.free_object ≡ t.free_object) (next_slot : u.free_slot ≡ min t.free_slot slot.0) (same_numbers : u.by_label.items ≡ t.by_label.items) where
         abbrev after : List (Option Slot)
         after = slots_of_keys u.slot_keys.items
 
@@ -202,6 +206,8 @@ module _ (v : Numbered) (t : Inside) (held : IsHeld t) (is : numbered_held t ≡
             (subst (IsTable u.object_names.items) (sym (less-numbers os i (shown own) name (entries-shown t held)))
             (subst (λ (l : List (Option (List ℕ))). IsTable l (map number_by os)) (sym names) (names-shown t held)))
             (table-less before after (λ m. nat_eq m slot.0) freed-slots (flat_map slots_by os) (flat_map slots_by after_objects) (slots-shown t held) into kept)
+            (subst (AreByLabel u.by_label.items) (sym (map-change labelled_by (without_entry name) (λ x. refl) i os))
+            (subst (λ (ids : List ObjectId). AreByLabel ids (map labelled_by os)) (sym same_numbers) (labels-shown t held)))
             (subst (HasRoom u.object_names.items) (sym next_object) (subst (λ (l : List (Option (List ℕ))). HasRoom l t.free_object) (sym names) held.object_room))
             (subst (HasRoom after) (sym next_slot)
             (room-less before after (λ m. nat_eq m slot.0) freed-slots t.free_slot (min t.free_slot slot.0) held.slot_room
@@ -328,7 +334,8 @@ module _ (v : Numbered) (t : Inside) (held : IsHeld t) (is : numbered_held t ≡
     module _ (u : Inside) (objects : u.objects.entries ≡ left) (unique : IsUnique (pointwise nat_eq) u.objects)
         (names : (m : ℕ) → at_number u.object_names.items m ≡ cond (nat_eq m number) None (at_number t.object_names.items m)) (same_names : length u.object_names.items ≡ length t.object_names.items)
         (keys : (m : ℕ) → at_number u.slot_keys.items m ≡ freed_at numbers m (at_number t.slot_keys.items m)) (same_keys : length u.slot_keys.items ≡ length t.slot_keys.items)
-        (next_object : u.free_object ≡ min t.free_object number) (next_slot : (m : ℕ) → m < u.free_slot → IsSome (at_number u.slot_keys.items m)) where
+        (next_object : u.free_object ≡ min t.free_object number) (next_slot : (m : ℕ) → m < u.free_slot → IsSome (at_number u.slot_keys.items m))
+        (taken : u.by_label.items ≡ filter (λ (id : ObjectId). not (nat_eq id.0 number)) t.by_label.items) where
       keys-freed : (m : ℕ) → at_number (slots_of_keys u.slot_keys.items) m ≡ cond (gone m) None (at_number before_slots m)
       keys-freed = slots-freed t.slot_keys.items u.slot_keys.items gone keys
 
@@ -356,6 +363,9 @@ module _ (v : Numbered) (t : Inside) (held : IsHeld t) (is : numbered_held t ≡
             slot_numbers =
                 subst (λ (l : List Owned). IsTable (slots_of_keys u.slot_keys.items) (flat_map slots_numbered l)) (sym objects)
                 (table-less before_slots (slots_of_keys u.slot_keys.items) gone keys-freed (flat_map slots_numbered es) (flat_map slots_numbered left) held.slot_numbers slots-into slots-kept);
+            labels =
+                subst (λ (l : List Owned). AreByLabel u.by_label.items (map labelled l)) (sym objects)
+                (subst (λ (ids : List ObjectId). AreByLabel ids (map labelled left)) (sym taken) (labels-left t held number owner name-here x told number-is));
             object_room =
                 subst (HasRoom u.object_names.items) (sym next_object)
                 (room-less t.object_names.items u.object_names.items (λ m. nat_eq m number) names t.free_object (min t.free_object number) held.object_room

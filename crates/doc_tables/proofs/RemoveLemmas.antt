@@ -1,16 +1,14 @@
 -- One property less.
-use Rattle.std.proofs.Common.{◌≡◌, ◌^◌, ◌<◌, ◌≤◌, ℕ, Bool, true, false, not, cond, nat_eq, List, [], ◌∷◌, map, length, sum_by, slice_get, Some, refl, sym, ap, subst, ◌∙◌, arith}
+use Rattle.std.proofs.Common.{◌≡◌, ◌^◌, ◌<◌, ◌≤◌, ℕ, cond, nat_eq, List, [], map, length, sum_by, slice_get, Some, refl, sym, ap, subst, arith}
 use Rattle.std.specs.Cmp.Lexicographic.{pointwise}
-use Rattle.std.specs.List.{filter, AllByRecursion, IsDistinct}
-use Rattle.std.specs.Map.{keys_of}
+use Rattle.std.specs.List.{IsDistinct}
 use Rattle.object_paths.specs.Slots.{same_text}
-use Rattle.document_model.specs.Document.{Document, Object, Property}
+use Rattle.document_model.specs.Document.{Object, Property}
 use Rattle.document_model.specs.Edited.{without_dynamic, without_property}
 use Rattle.doc_tables.specs.Held.{property_held, IsPropertyHeld}
 use Rattle.doc_tables.specs.Shown.{Shown, change_at, without_entry}
 use Rattle.doc_tables.proofs.ChangeLists.{map-change, length-change, all-change, change-only}
 use Rattle.doc_tables.proofs.HeldBy.{object_by, document_by, number_by, IsObjectBy, AreEntries}
-use Rattle.doc_tables.proofs.HeldLemmas.{Named}
 use Rattle.doc_tables.proofs.RemoveLists.{left-all, left-distinct, left-filtered, left-length, sum_by-less}
 
 module _ (objects : List Shown) (i : ℕ) (o : Shown) (name : List ℕ) (h : AreEntries objects) where

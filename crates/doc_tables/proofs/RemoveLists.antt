@@ -1,16 +1,15 @@
 -- Lists with an entry less.
-use Rattle.std.proofs.Common.{◌≡◌, ◌+◌, ◌≤◌, ℕ, zero, suc, Bool, true, false, not, cond, nat_eq, List, [], ◌∷◌, ◌++◌, map, length, sum_by, slice_get, Option, Some, None, inl, inr, refl, sym, ap, subst, ◌∙◌, arith}
+use Rattle.std.proofs.Common.{◌≡◌, ◌≤◌, ℕ, zero, suc, Bool, true, false, not, cond, nat_eq, List, [], ◌∷◌, map, length, sum_by, slice_get, Some, inl, inr, refl, sym, ap, ◌∙◌, arith}
 use Rattle.std.specs.Cmp.Lexicographic.{pointwise}
 use Rattle.std.specs.List.{filter, flat_map, AllByRecursion, IsDistinct}
 use Rattle.std.specs.Map.{keys_of, lookup, remove_entry}
-use Rattle.std.proofs.lemmas.Bool.{false≢true}
 use Rattle.std.proofs.lemmas.List.Sums.{sum_by-cons}
 use Rattle.std.proofs.lemmas.Map.Keys.{IsDistinct-cons, IsDistinct-head, IsDistinct-tail}
 use Rattle.fc_base.specs.Graph.{IsIn}
 use Rattle.object_paths.specs.Slots.{same_text}
 use Rattle.document_model.proofs.Members.{from_append, IsIn-left, IsIn-map, IsIn-right}
 use Rattle.doc_tables.specs.Shown.{change_at}
-use Rattle.doc_tables.proofs.Finding.{same_text-refl, same_text-sym, same_text-told}
+use Rattle.doc_tables.proofs.Finding.{same_text-sym, same_text-told}
 use Rattle.doc_tables.proofs.VarSetLemmas.{of_all}
 
 -- what is changed stands at its place

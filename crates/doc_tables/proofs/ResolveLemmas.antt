@@ -1,5 +1,5 @@
 -- The entry of an object has the numbers of its slots, however the object was found.
-use Rattle.std.proofs.Common.{◌≡◌, ℕ, Bool, false, nat_eq, List, [], ◌∷◌, Option, Some, None, slice_get, position, refl, sym, ap, subst, ◌∙◌}
+use Rattle.std.proofs.Common.{◌≡◌, ℕ, Bool, false, nat_eq, List, [], ◌∷◌, Option, Some, None, slice_get, refl, sym, ap, subst, ◌∙◌}
 use Rattle.std.specs.Cmp.Lexicographic.{pointwise}
 use Rattle.std.specs.List.{find}
 use Rattle.std.specs.Map.{lookup}
@@ -20,7 +20,7 @@ use Rattle.doc_tables.specs.Accessors.{IsNumberOf}
 use Rattle.doc_tables.specs.Entries.{number_in, IsObjectEntry, IsEntryFor}
 use Rattle.doc_tables.specs.Held.{object_held, document_held, numbered_held, IsObjectHeld, IsHeld}
 use Rattle.doc_tables.specs.Numbered.{Numbered, at_number, object_at, slot_at}
-use Rattle.doc_tables.proofs.Finding.{find-map, find-place, find-position, find-same, lookup-find, same_text-sym}
+use Rattle.doc_tables.proofs.Finding.{find-map, find-place, find-same, lookup-find, same_text-sym}
 use Rattle.doc_tables.proofs.HeldLemmas.{Named, Owned, Owns, name_at-held, name-read, owner-looked, owns-held, row_held, rows-held, slot_named, slot_at-stands, object-found, all_at}
 
 find-never : {A : Type 0} (xs : List A) → find (λ x. false) xs ≡ None
@@ -83,15 +83,6 @@ module _ (t : Inside) (held : IsHeld t) where
       (subst (λ (q : Option Object). IsEntryFor (numbered_held t) q (option_map (λ (o : Owned). o.1) (find test es))) (sym object)
       (entry-found (find test es) (λ o h. find-place test es o h)))
 
-  pub entry-labelled : (label : List ℕ) → IsEntryFor (numbered_held t) (object_labelled (document_held t.objects.entries) label) (option_map (λ (o : Owned). o.1) (option_and_then (slice_get t.objects.entries) (position (λ (o : Owned). same_text o.1.label label) t.objects.entries)))
-  entry-labelled label =
-      let es = t.objects.entries in
-      let test : Owned → Bool = λ o. same_text o.1.label label in
-      let object : object_labelled (document_held es) label ≡ option_map object_held (find test es) = find-map object_held (λ q. same_text q.label label) es in
-      subst (λ (f : Option Owned). IsEntryFor (numbered_held t) (object_labelled (document_held es) label) (option_map (λ (o : Owned). o.1) f)) (find-position test es)
-      (subst (λ (q : Option Object). IsEntryFor (numbered_held t) q (option_map (λ (o : Owned). o.1) (find test es))) (sym object)
-      (entry-found (find test es) (λ o h. find-place test es o h)))
-
   -- the object of the number of an entry is that entry's
   pub object_at-place : (i : ℕ) (o : Owned) → slice_get t.objects.entries i ≡ Some o → object_at (numbered_held t) o.1.number.0 ≡ Some (object_held o)
   object_at-place i o at =
@@ -134,13 +125,6 @@ module _ (v : Numbered) (t : Inside) (held : IsHeld t) (is : numbered_held t ≡
   named-read name e h =
       subst (λ (x : Option ObjectEntry). IsEntryFor v (object_named v.document name) x) (sym h)
       (subst (λ (w : Numbered). IsEntryFor w (object_named w.document name) (lookup (pointwise nat_eq name) t.objects.entries)) is (entry-named t held name))
-
-  pub labelled-read : (label : List ℕ) (place : Option ℕ) (e : Option ObjectEntry) → place ≡ position (λ (o : Owned). same_text o.1.label label) t.objects.entries
-      → e ≡ option_map (λ (o : Owned). o.1) (option_and_then (slice_get t.objects.entries) place) → IsEntryFor v (object_labelled v.document label) e
-  labelled-read label place e at h =
-      subst (λ (x : Option ObjectEntry). IsEntryFor v (object_labelled v.document label) x)
-      (sym (h ∙ ap (λ (p : Option ℕ). option_map (λ (o : Owned). o.1) (option_and_then (slice_get t.objects.entries) p)) at))
-      (subst (λ (w : Numbered). IsEntryFor w (object_labelled w.document label) (option_map (λ (o : Owned). o.1) (option_and_then (slice_get t.objects.entries) (position (λ (o : Owned). same_text o.1.label label) t.objects.entries)))) is (entry-labelled t held label))
 
   pub here-read : (n : ℕ) (name : List ℕ) (e : ObjectEntry) → Some name ≡ at_number t.object_names.items n → Some e ≡ lookup (pointwise nat_eq name) t.objects.entries → IsEntryFor v (object_at v n) (Some e)
   here-read n name e h own =

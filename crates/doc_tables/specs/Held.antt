@@ -13,6 +13,7 @@ use Rattle.document_model.specs.Document.{Document, Object, Property}
 use Rattle.document_model.specs.WellFormed.{IsWellFormed}
 use Rattle.document_model.specs.Edited.{new_object, new_property}
 use Rattle.doc_tables.specs.Entries.{HasFewReferences}
+use Rattle.doc_tables.specs.Labels.{AreByLabel, labelled}
 use Rattle.doc_tables.specs.Numbered.{Numbered}
 use Rattle.doc_tables.specs.Table.{HasRoom, IsTable}
 use Rattle.doc_tables.specs.declared.entry.ObjectEntry.{ObjectEntry}
@@ -89,6 +90,7 @@ pub record IsHeld (t : Inside) : Type 0 where
   pub few_slots : sum_by (λ (o : List ℕ × ObjectEntry). length o.1.properties.entries) t.objects.entries < 2 ^ 32
   pub object_numbers : IsTable t.object_names.items (map object_numbered t.objects.entries)
   pub slot_numbers : IsTable (slots_of_keys t.slot_keys.items) (flat_map slots_numbered t.objects.entries)
+  pub labels : AreByLabel t.by_label.items (map labelled t.objects.entries)
   pub object_room : HasRoom t.object_names.items t.free_object
   pub slot_room : HasRoom (slots_of_keys t.slot_keys.items) t.free_slot
   pub form : IsWellFormed (document_held t.objects.entries)

@@ -9,3 +9,4 @@ pub mod Held
 pub mod Entries
 pub mod Counted
 pub mod Shown
+pub mod Labels

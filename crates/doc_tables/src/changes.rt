@@ -19,6 +19,7 @@ ghost use Rattle.doc_tables.specs.Shown.{change_at, object_with, shown, with_ent
 
 use crate::entry::{ObjectEntry, PropertyEntry, SlotKey, SlotPlace};
 use crate::insertion::{insert_object, insert_property};
+use crate::labels::{count_before, insert_number};
 use crate::numbers::{first_free, put, thing_at};
 use crate::tables::Tables;
 use document_model::{Content, ObjectKind};
@@ -126,11 +127,18 @@ impl Tables {
         ensures unchanged { OnErr result (self.new ≡ self.old) }
     {
         let _ = name.as_str(); // for the proof
-        let _ = label.as_str(); // for the proof
         let number = self.free_object_number();
+        let place = count_before(
+            &self.by_label,
+            &self.object_names,
+            &self.objects,
+            label.as_str(),
+            true,
+        );
         let own_name = name.copy(*self.objects.allocator())?;
         let properties = IndexMap::new(*self.objects.allocator());
         self.object_names.reserve(1)?;
+        self.by_label.reserve(1)?;
         let entry = ObjectEntry {
             number,
             label,
@@ -138,6 +146,7 @@ impl Tables {
         };
         insert_object(&mut self.objects, name, entry)?;
         put(&mut self.object_names, number.0, own_name);
+        insert_number(&mut self.by_label, place, number);
         self.free_object = number.0 as usize + 1;
         Ok(number)
     }

@@ -18,6 +18,7 @@ mod dependencies;
 mod entry;
 mod finds_all;
 mod insertion;
+mod labels;
 pub mod limits;
 mod numbers;
 mod objects;

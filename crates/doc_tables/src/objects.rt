@@ -8,20 +8,12 @@ ghost use Rattle.doc_tables.specs.Entries.{IsEntryFor, number_in};
 ghost use Rattle.doc_tables.specs.Numbered.{name_at, object_at};
 
 use crate::entry::ObjectEntry;
+use crate::labels::first_labelled;
 use crate::numbers::thing_at;
 use crate::tables::Tables;
 use fc_base::{Label, Name, ObjectId, SlotId};
 use indexmap::IndexMap;
 use object_paths::{Owner, Path, SlotName};
-
-/// The place of the first object of that label.
-fn place_labelled(objects: &IndexMap<Name, ObjectEntry>, label: &str) -> Option<usize>
-    ensures { result ≡ position (λ e. same_text e.1.label label.now) objects.now.entries }
-{
-    objects
-        .iter()
-        .position(|(_, entry)| entry.label.as_str() == label)
-}
 
 /// The place of the object of that name.
 fn place_named(objects: &IndexMap<Name, ObjectEntry>, name: &str) -> Option<usize>
@@ -88,12 +80,15 @@ impl Tables {
     fn entry_labelled(&self, label: &Label) -> Option<&ObjectEntry>
         ensures { IsEntryFor self.now (object_labelled self.now.document label.now) (option_copied result) }
     {
-        let place = place_labelled(&self.objects, label.as_str());
-        entry_at(&self.objects, place)
+        self.finds_all(); // for the proof
+        match self.object_labelled(label.as_str()) {
+            Some(object) => Some(self.entry_of_object(object)),
+            None => None,
+        }
     }
 
     /// The slot that a path of an object names; none exactly where it names none. An owner is looked up
-    /// by its name; for an owner by its label the objects are looked through from the first.
+    /// by its name, or searched for in the order of labels.
     pub fn resolve(&self, owner: ObjectId, path: &Path) -> Option<SlotId>
         requires { IsSome (name_at self.now owner.0) }
         ensures { IsNumberOf self.now result
@@ -134,13 +129,12 @@ impl Tables {
         number_of(entry_at(&self.objects, place))
     }
 
-    /// The first object of that label; none exactly where there is none. The objects are looked through
-    /// from the first.
+    /// The first object of that label; none exactly where there is none. It is searched for in the order of
+    /// labels: a few labels are read, as many as the number of objects has binary digits.
     pub fn object_labelled(&self, label: &str) -> Option<ObjectId>
         ensures { IsNumberOfObject self.now result (object_labelled self.now.document label.now) }
     {
-        let place = place_labelled(&self.objects, label);
-        number_of(entry_at(&self.objects, place))
+        first_labelled(&self.by_label, &self.object_names, &self.objects, label)
     }
 
     /// The name of an object.

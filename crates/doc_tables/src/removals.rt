@@ -8,6 +8,7 @@ ghost use Rattle.doc_tables.specs.Shown.{change_at, shown, without_entry};
 ghost use Rattle.doc_tables.specs.Table.{freed_at};
 
 use crate::entry::{ObjectEntry, PropertyEntry, SlotKey};
+use crate::labels::take_number;
 use crate::numbers::{lower, release, thing_at};
 use crate::tables::Tables;
 use fc_base::{Name, ObjectId, SlotId};
@@ -75,6 +76,7 @@ impl Tables {
         self.free_slot = release_slots(&mut self.slot_keys, &entry.properties, free_slot);
         release(&mut self.object_names, object.0);
         self.free_object = lower(self.free_object, object.0);
+        take_number(&mut self.by_label, object);
         Ok(())
     }
 }

@@ -10,7 +10,7 @@ ghost use Rattle.doc_tables.specs.VarSets.{HoldsVarSets};
 
 use crate::entry::{ObjectEntry, PropertyEntry, SlotKey};
 use crate::insertion::{insert_object, insert_property};
-use fc_base::Name;
+use fc_base::{Name, ObjectId};
 use indexmap::IndexMap;
 use object_paths::laws::slot_test_is_exact;
 use std::alloc::{AllocError, Global};
@@ -26,6 +26,8 @@ pub struct Tables {
     pub(crate) object_names: Vec<Option<Name>>,
     /// The slot of each number.
     pub(crate) slot_keys: Vec<Option<SlotKey>>,
+    /// The objects in the order of label, then place in the document.
+    pub(crate) by_label: Vec<ObjectId>,
     /// No number of an object below is free.
     pub(crate) free_object: usize,
     /// No number of a slot below is free.
@@ -129,6 +131,17 @@ fn copy_keys(alloc: Global, keys: &Vec<Option<SlotKey>>) -> Result<Vec<Option<Sl
     Ok(copies)
 }
 
+/// The same numbers.
+fn copy_numbers(alloc: Global, numbers: &Vec<ObjectId>) -> Result<Vec<ObjectId>, AllocError>
+    ensures { IfOk result (λ copies. copies.items ≡ numbers.now.items) }
+{
+    let mut copies = Vec::new(alloc);
+    for number in numbers {
+        copies.push(*number)?;
+    }
+    Ok(copies)
+}
+
 impl Tables {
     /// The tables of a document without objects.
     pub fn new(alloc: Global) -> Tables
@@ -138,6 +151,7 @@ impl Tables {
             objects: IndexMap::new(alloc),
             object_names: Vec::new(alloc),
             slot_keys: Vec::new(alloc),
+            by_label: Vec::new(alloc),
             free_object: 0,
             free_slot: 0,
         }
@@ -150,10 +164,12 @@ impl Tables {
         let objects = copy_objects(alloc, &self.objects)?;
         let object_names = copy_names(alloc, &self.object_names)?;
         let slot_keys = copy_keys(alloc, &self.slot_keys)?;
+        let by_label = copy_numbers(alloc, &self.by_label)?;
         Ok(Tables {
             objects,
             object_names,
             slot_keys,
+            by_label,
             free_object: self.free_object,
             free_slot: self.free_slot,
         })

@@ -23,13 +23,13 @@ put-requires-clause-within c = omega (arith, keys-within c.args.self.now c.self.
 pub invariant_of-self-in_err-push_property : goal.invariant_of-self-in_err-push_property
 invariant_of-self-in_err-push_property c =
     kept-held c.args.self.now c.self.inside c.self.invariant c.self.view_is (record c.self.inside { objects = c.push_property.new.objects; slot_keys = c.reserve.new.self })
-    c.in_err-push_property.ensures.unchanged refl c.reserve.ensures.items refl refl
+    c.in_err-push_property.ensures.unchanged refl c.reserve.ensures.items refl refl refl
 
 pub returns-in_err-push_property-clause-unchanged : goal.returns-in_err-push_property-clause-unchanged
 returns-in_err-push_property-clause-unchanged c =
     MatchResult-from_err c.from_residual-in_err-push_property.result _ _ c.from_residual-in_err-push_property.ensures.0
     (λ y. kept-view c.args.self.now c.self.inside c.self.invariant c.self.view_is (record c.self.inside { objects = c.push_property.new.objects; slot_keys = c.reserve.new.self })
-    c.in_err-push_property.ensures.unchanged refl c.reserve.ensures.items refl refl)
+    c.in_err-push_property.ensures.unchanged refl c.reserve.ensures.items refl refl refl)
 
 pub invariant_of-self-2 : goal.invariant_of-self-2
 invariant_of-self-2 c =
@@ -48,7 +48,7 @@ invariant_of-self-2 c =
     (c.in_ok-push_property.ensures.added ∙ ap (λ (e : PropertyEntry). change_at (with_entry (c.args.name, e)) c.unwrap-place.result (map shown t.objects.entries)) c.in_ok-entry.ensures) c.requires.one_slot refl refl c.free_slot_number-slot.ensures.free here others
     c.free_slot_number-slot.ensures.used c.requires.few
     (omega (arith, keys-few c.args.self.now t c.self.invariant c.self.view_is, c.free_slot_number-slot.ensures.few, c.put.ensures.few 4294967295, ap length c.reserve.ensures.items)) refl refl
-    c.requires.name c.requires.added_type
+    c.requires.name c.requires.added_type refl
 
 pub returns-clause-added : goal.returns-clause-added
 returns-clause-added c =

@@ -21,7 +21,7 @@ invariant_of-self c =
     c.unwrap-place.result (sym c.get_index_of.ensures.index ∙ c.unwrap-place.ensures) c.args.name.now c.requires.there
     c.take_property-slot.result c.take_property-slot.ensures.slot
     (record c.self.inside { objects = c.take_property-slot.new.objects; slot_keys = c.release.new.table; free_slot = c.lower-self-inside.result })
-    c.take_property-slot.ensures.taken refl c.release.ensures.freed (omega (arith, c.release.ensures.len)) refl c.lower-self-inside.ensures
+    c.take_property-slot.ensures.taken refl c.release.ensures.freed (omega (arith, c.release.ensures.len)) refl c.lower-self-inside.ensures refl
 
 pub returns-clause-removed : goal.returns-clause-removed
 returns-clause-removed c =
@@ -29,4 +29,4 @@ returns-clause-removed c =
     c.unwrap-place.result (sym c.get_index_of.ensures.index ∙ c.unwrap-place.ensures) c.args.name.now c.requires.there
     c.take_property-slot.result c.take_property-slot.ensures.slot
     (record c.self.inside { objects = c.take_property-slot.new.objects; slot_keys = c.release.new.table; free_slot = c.lower-self-inside.result })
-    c.take_property-slot.ensures.taken refl c.release.ensures.freed (omega (arith, c.release.ensures.len)) refl c.lower-self-inside.ensures
+    c.take_property-slot.ensures.taken refl c.release.ensures.freed (omega (arith, c.release.ensures.len)) refl c.lower-self-inside.ensures refl

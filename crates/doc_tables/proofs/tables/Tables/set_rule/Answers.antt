@@ -16,7 +16,7 @@ put_content-requires c =
 pub invariant_of-self : goal.invariant_of-self
 invariant_of-self c =
     written-held c.args.self.now c.self.inside c.self.invariant c.self.view_is c.args.slot.0 c.thing_at-key.result.now c.thing_at-key.ensures c.unwrap-place.result (sym c.unwrap-place.ensures ∙ c.place_of.ensures) c.args.rule
-    (record c.self.inside { objects = c.put_content.new.objects }) c.put_content.ensures refl refl c.requires.references refl refl c.requires.content
+    (record c.self.inside { objects = c.put_content.new.objects }) c.put_content.ensures refl refl c.requires.references refl refl c.requires.content refl
 
 pub returns-clause-set : goal.returns-clause-set
 returns-clause-set c =
