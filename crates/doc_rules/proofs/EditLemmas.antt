@@ -1,5 +1,5 @@
 -- The numbers of faults and of refusals have names, and what is accepted is valid.
-use Rattle.std.proofs.Common.{◌≡◌, ℕ, Bool, true, false, cond, List, [], ◌∷◌, Option, Some, None, Result, Ok, Err, refl, sym, ap, subst, ◌∙◌, IsTrue}
+use Rattle.std.proofs.Common.{◌≡◌, Bool, true, false, cond, List, [], ◌∷◌, Option, Some, None, Result, Ok, Err, refl, sym, ap, subst, ◌∙◌, IsTrue}
 use Rattle.std.specs.Option.{option_map, option_or}
 use Rattle.object_paths.specs.declared.path.Path.{Path}
 use Rattle.object_paths.specs.Slots.{Slot}
@@ -16,7 +16,7 @@ use Rattle.document_model.specs.Document.{Document, Object}
 use Rattle.document_model.specs.Slots.{slots}
 use Rattle.document_outcomes.specs.Full.{Meanings}
 use Rattle.document_outcomes.specs.Sorts.{sort}
-use Rattle.document_outcomes.specs.Faults.{Fault, IsValid, first_fault, fault_within_limits, limit_faults, label_faults, link_faults, reference_fault, reference_faults, cycle_faults, sort_fault, sort_faults, range_faults, first_some, object_fault, slot_fault, number_of_cause}
+use Rattle.document_outcomes.specs.Faults.{Fault, IsValid, first_fault, fault_within_limits, limit_faults, label_faults, link_faults, reference_fault, reference_faults, cycle_faults, sort_fault, sort_faults, first_some, object_fault, slot_fault, number_of_cause}
 use Rattle.document_outcomes.specs.RefusalNumbers.{no_object, no_property, label_taken, out_of_range, unknown_reference, cycle, link_kind, too_many}
 use Rattle.doc_rules.specs.declared.edit.Edit.{Edit}
 use Rattle.doc_rules.specs.declared.edit.Edit.TheVariants.{SetValue, Bind}
@@ -28,7 +28,7 @@ use Rattle.doc_rules.specs.declared.fault.CheckFault.TheVariants.{Doc}
 use Rattle.doc_rules.specs.declared.fault.DocFault.{DocFault}
 use Rattle.doc_rules.specs.Found.{MeetsFault}
 use Rattle.doc_rules.specs.declared.edit_fault.EditFault.TheVariants.{Refused, Memory}
-use Rattle.doc_rules.specs.Edits.{Accepted, Answers, Becomes, IsNamed, MeetsEdit, accepted, accepted_by, bound_to, edited, fault_told, refusal_of_fault, refusal_of_sort, refusal_of_text, set_to, value_fitted, value_given, value_read, value_sorted}
+use Rattle.doc_rules.specs.Edits.{Accepted, Answers, Becomes, IsNamed, MeetsEdit, accepted, accepted_by, bound_to, edited, fault_told, refusal_of_fault, refusal_of_sort, refusal_of_text, set_to, value_fitted, value_read, value_sorted}
 use Rattle.doc_rules.specs.Refusals.{is_refusal_number}
 
 -- ---- faults

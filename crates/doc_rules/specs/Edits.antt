@@ -2,7 +2,6 @@
 use Rattle.std.specs.Prelude.{◌≡◌, ℕ, Bool, List, [], ◌∷◌, Option, Some, None, Result, Ok, Err, IsTrue}
 use Rattle.fc_base.specs.declared.ids.SlotId.{SlotId}
 use Rattle.object_paths.specs.Slots.{Slot}
-use Rattle.property_types.specs.declared.prop_type.Sort.{Sort}
 use Rattle.property_types.specs.declared.value.Value.{Value}
 use Rattle.property_types.specs.declared.value.ValueFault.TheVariants.{Range}
 use Rattle.property_types.specs.Plans.{Slots}

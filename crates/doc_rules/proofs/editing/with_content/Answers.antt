@@ -1,4 +1,4 @@
-use Rattle.std.proofs.Common.{◌≡◌, sym, ap, subst, ◌∙◌}
+use Rattle.std.proofs.Common.{ap, subst, ◌∙◌}
 use Rattle.document_model.specs.Edited.{with_content}
 use Rattle.doc_tables.specs.Numbered.{Numbered, LeadsTo, slot_at}
 use Rattle.doc_rules.proofs.editing.with_content.Goals as goal
