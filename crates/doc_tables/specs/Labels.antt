@@ -20,13 +20,13 @@ Labelled = List ℕ × ObjectId
 abbrev pub labelled : List ℕ × ObjectEntry → Labelled
 labelled o = (o.1.label, o.1.number)
 
--- what is less, and what is equal where that is asked
+-- what is less, and what is equal where that counts too
 abbrev pub before_by : Bool → Ordering → Bool
 before_by equal Less = true
 before_by equal Equal = equal
 before_by equal Greater = false
 
--- a text stands before another; behind equal ones where that is asked
+-- the other text is less than the first, or equal where that counts too
 abbrev pub text_before : Bool → List ℕ → List ℕ → Bool
 text_before equal text other = before_by equal (text_cmp other text)
 
@@ -50,15 +50,15 @@ pub record AreByLabel (numbers : List ObjectId) (objects : List Labelled) : Type
 abbrev pub label_at : List (Option (List ℕ)) → List (List ℕ × ObjectEntry) → ℕ → Option (List ℕ)
 label_at names objects n = option_map (λ (e : ObjectEntry). e.label) (option_and_then (λ name. lookup (pointwise nat_eq name) objects) (at_number names n))
 
--- an object stands before a label
+-- an object has a label that is less than a text, or equal where that counts too
 abbrev pub stands_before : List (Option (List ℕ)) → List (List ℕ × ObjectEntry) → Bool → List ℕ → ObjectId → Bool
 stands_before names objects equal text id = option_map_or (text_before equal text) (label_at names objects id.0) false
 
--- an object has a label
+-- an object has this label
 abbrev pub has_label : List (Option (List ℕ)) → List (List ℕ × ObjectEntry) → List ℕ → ObjectId → Bool
 has_label names objects text id = option_map_or (λ other. same_text other text) (label_at names objects id.0) false
 
--- the first that does not stand before a label, if it has it
+-- the first whose label is not less than a text, if it has that label
 abbrev pub first_of_label : List (Option (List ℕ)) → List (List ℕ × ObjectEntry) → List ℕ → List ObjectId → Option ObjectId
 first_of_label names objects text ids =
     option_and_then (λ id. if has_label names objects text id then Some id else None) (find (λ id. not (stands_before names objects false text id)) ids)

@@ -112,7 +112,8 @@ impl Tables {
         Ok(SlotKey { object, property })
     }
 
-    /// Adds a VarSet behind the objects that are there, and answers its number.
+    /// Adds a VarSet behind the objects that are there, and answers its number. In the order of labels the
+    /// numbers behind its own move up.
     pub fn add_object(
         &mut self,
         name: Name,

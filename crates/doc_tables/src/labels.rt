@@ -1,4 +1,5 @@
-//! Objects by label: their numbers in the order of label, then place in the document.
+//! Objects by label: their numbers in the order of label, then place in the document. Labels are read where
+//! they stand, in the objects, so the list has no copy of them.
 ghost use Rattle.std.specs.Prelude.{◌≡◌, ◌<◌, ◌≤◌, false, nat_eq, not, length, vec_len, vec_capacity, insert, slice_get};
 ghost use Rattle.std.specs.List.{filter, position_or_len};
 ghost use Rattle.std.specs.List.Sorted.{IsPartitionedBy};
@@ -11,7 +12,7 @@ use fc_base::{Label, Name, ObjectId};
 use indexmap::IndexMap;
 use std::cmp::Ordering;
 
-/// Whether a text is less than another, or not greater.
+/// Whether another text is less than a text, or not greater where `equal` is true.
 fn text_before(text: &str, other: &str, equal: bool) -> bool
     ensures { result ≡ text_before equal text.now other.now }
 {
@@ -39,7 +40,7 @@ fn label_at<'a>(
     }
 }
 
-/// Whether an object has a label that is less, or not greater.
+/// Whether an object has a label that is less, or not greater where `equal` is true.
 fn stands_before(
     names: &Vec<Option<Name>>,
     objects: &IndexMap<Name, ObjectEntry>,
@@ -70,7 +71,8 @@ fn has_label(
     }
 }
 
-/// How many objects have labels that are less, or not greater.
+/// How many objects have labels that are less, or not greater where `equal` is true. The order is cut in
+/// halves.
 pub(crate) fn count_before(
     by_label: &Vec<ObjectId>,
     names: &Vec<Option<Name>>,
@@ -131,7 +133,7 @@ pub(crate) fn insert_number(by_label: &mut Vec<ObjectId>, place: usize, number: 
     by_label.insert(place, number).unwrap();
 }
 
-/// Takes a number out.
+/// Takes a number out. All are gone through.
 pub(crate) fn take_number(by_label: &mut Vec<ObjectId>, number: ObjectId)
     ensures { by_label.new.items ≡ filter (λ id. not (nat_eq id.0 number.0)) by_label.old.items }
 {

@@ -130,7 +130,7 @@ impl Tables {
     }
 
     /// The first object of that label; none exactly where there is none. It is searched for in the order of
-    /// labels: a few labels are read, as many as the number of objects has binary digits.
+    /// labels, by halves: of a million objects some twenty labels are read.
     pub fn object_labelled(&self, label: &str) -> Option<ObjectId>
         ensures { IsNumberOfObject self.now result (object_labelled self.now.document label.now) }
     {

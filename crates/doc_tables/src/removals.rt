@@ -63,7 +63,7 @@ impl Tables {
         Ok(())
     }
 
-    /// Removes an object: it and its slots give their numbers up.
+    /// Removes an object: it and its slots give their numbers up. The objects are gone through once.
     pub fn remove_object(&mut self, object: ObjectId) -> Result<(), AllocError>
         requires { IsSome (name_at self.old object.0) }
         ensures removed { OnOk result ((o : List ℕ) → name_at self.old object.0 ≡ Some o
