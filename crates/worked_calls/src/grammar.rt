@@ -1,15 +1,8 @@
 //! Trees, printed forms and references of expressions, which the program shows in no run.
 
-ghost use Rattle.std.specs.Prelude.{◌≡◌, [], ◌∷◌, IfOk};
-ghost use Rattle.expr_tree.specs.References.{references, to_area, to_path};
-ghost use Rattle.expr_tree.specs.Renaming.{IsRenamingOf};
-
 use expr_grammar::{
-    AggregateOp, Argument, Expr, ExprCause, ExprFault, NewReference, ParseFault, Reference,
-    Renaming, map_paths, parse, print, references,
+    ExprCause, ExprFault, ParseFault, Reference, Renaming, map_paths, parse, print, references,
 };
-use fc_base::{Address, Area};
-use object_paths::Path;
 use std::alloc::{AllocError, Global};
 use std::test::Fail;
 
@@ -149,82 +142,5 @@ fn replaces_no_reference_that_is_not_listed(rt: HostRuntime) -> Result<(), Fail>
     };
     let same = map_paths(rt.alloc(), &tree, &renaming)?;
     assert!(rt; print(rt.alloc(), &same)?.as_str() == "a + sum(b; A1:B2)");
-    Ok(())
-}
-
-/// The area between two corners.
-fn area(from: &str, to: &str) -> Option<Area> {
-    Area::of(Address::read(from)?, Address::read(to)?)
-}
-
-/// `sum(AREA; PATH)`.
-fn sum_of(alloc: Global, area: Area, path: Path) -> Result<Expr, AllocError>
-    ensures { IfOk result (λ e. references e ≡ to_area area ∷ to_path path ∷ []) }
-{
-    let mut arguments = Vec::new(alloc);
-    arguments.push(Argument::Cells(area))?;
-    arguments.push(Argument::Tree(Expr::path(path)))?;
-    Ok(Expr::aggregate(AggregateOp::Sum, arguments))
-}
-
-/// The area in place of the first reference, and the path in that of the second.
-fn replacing(alloc: Global, area: Area, path: Path) -> Result<Renaming, AllocError>
-    ensures { IfOk result (λ r. r.pairs.items ≡ (0, NewReference.ToArea area) ∷ (1, NewReference.ToPath path) ∷ []) }
-{
-    let mut pairs = Vec::new(alloc);
-    pairs.push((0, NewReference::ToArea(area)))?;
-    pairs.push((1, NewReference::ToPath(path)))?;
-    Ok(Renaming { pairs })
-}
-
-fn replaced_text(alloc: Global, tree: &Expr, renaming: &Renaming) -> Result<String, AllocError>
-    requires { IsRenamingOf renaming.now.pairs.items tree.now }
-{
-    let replaced = map_paths(alloc, tree, renaming)?;
-    print(alloc, &replaced)
-}
-
-/// `sum(AREA; PATH)` with another area and another path.
-fn replaced_sum(alloc: Global, old: (Area, Path), new: (Area, Path)) -> Result<String, AllocError> {
-    let tree = sum_of(alloc, old.0, old.1)?;
-    let renaming = replacing(alloc, new.0, new.1)?;
-    replaced_text(alloc, &tree, &renaming)
-}
-
-/// Whether `sum(A1:B2; Height)` is printed so with the area of these corners and this path.
-fn replaced_prints(
-    alloc: Global,
-    corners: (&str, &str),
-    path: &str,
-    want: &str,
-) -> Result<bool, Fail> {
-    let (Some(old), Some(new)) = (area("A1", "B2"), area(corners.0, corners.1)) else {
-        return Ok(false);
-    };
-    let height = Path::read(alloc, "Height")?;
-    let path = Path::read(alloc, path)?;
-    let text = replaced_sum(alloc, (old, height), (new, path))?;
-    Ok(text.as_str() == want)
-}
-
-/// What takes the place of `A1:B2` and of `Height`, and how the sum is printed then.
-static REPLACED: [((&str, &str), &str, &str); 3] = [
-    (("C3", "$D$4"), "Box . Length", "sum(C3:$D$4; Box.Length)"),
-    (
-        ("ZZ1", "ZZ1"),
-        "<<My box>>.Placement.Base.x",
-        "sum(ZZ1:ZZ1; <<My box>>.Placement.Base.x)",
-    ),
-    (("$A$1", "B16384"), ".mm", "sum($A$1:B16384; .mm)"),
-];
-
-#[test]
-fn replaces_a_path_and_an_area(rt: HostRuntime) -> Result<(), Fail> {
-    for (corners, path, want) in &REPLACED {
-        assert!(rt;
-            replaced_prints(rt.alloc(), *corners, path, want)?,
-            "{want}"
-        );
-    }
     Ok(())
 }
