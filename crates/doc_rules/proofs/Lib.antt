@@ -8,3 +8,4 @@ pub mod ChainLemmas
 pub mod EditLemmas
 pub mod SlotLemmas
 pub mod FormLemmas
+pub mod ShapeLemmas

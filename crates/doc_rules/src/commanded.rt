@@ -16,14 +16,13 @@ fn object_commanded(tables: &Tables, owner: &Owner) -> Option<ObjectId>
 {
     match owner {
         Owner::Here => None,
-        Owner::ByName(name) => tables.object_named(name.as_str()),
+        Owner::ByName(name) => tables.object_of(name),
         Owner::ByLabel(label) => tables.object_labelled(label.as_str()),
     }
 }
 
 /// The slot that the path of a command names. It is refused with NoObject (2) where there is no such
-/// object, and else with NoProperty (3) where the object has no such slot. The objects are looked
-/// through from the first.
+/// object, and else with NoProperty (3) where the object has no such slot.
 pub fn slot_commanded(tables: &Tables, path: &Path) -> Result<SlotId, Refusal>
     ensures exact { IsCommanded tables.now (slot_commanded tables.now.document path.now) result }
     ensures named { (r : Refusal) → result ≡ Err r → IsNamed r }

@@ -61,6 +61,7 @@ fn with_content(
 {
     let mut edited = tables.copy(alloc)?;
     edited.set_rule(slot, content)?;
+    edited.resolve_references()?;
     Ok(edited)
 }
 

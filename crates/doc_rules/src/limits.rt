@@ -33,8 +33,8 @@ fn has_large_tree(alloc: Global, tables: &Tables, slot: SlotId) -> Result<bool, 
     requires { IsSome (slot_at tables.now slot.0) }
     ensures { IfOk result (λ large. large ≡ option_map_or is_too_large (tree_at tables.now slot.0) false) }
 {
-    match tables.expression_of(slot) {
-        Some(tree) => is_too_large(alloc, tree),
+    match tables.bound_of(alloc, slot)? {
+        Some(tree) => is_too_large(alloc, &tree),
         None => Ok(false),
     }
 }

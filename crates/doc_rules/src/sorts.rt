@@ -3,10 +3,11 @@ ghost use Rattle.std.specs.Option.{option_and_then};
 ghost use Rattle.property_types.specs.Types.{sort_of_type};
 ghost use Rattle.expr_eval.specs.Sorts.{sort_of};
 ghost use Rattle.expr_tree.specs.References.{reference_count};
+ghost use Rattle.expr_tree.specs.Tree.{Tree};
 ghost use Rattle.document_model.specs.Slots.{slots, type_of};
 ghost use Rattle.document_outcomes.specs.Faults.{sort_faults};
 ghost use Rattle.document_outcomes.specs.Sorts.{local_sort, sort_reading};
-ghost use Rattle.doc_tables.specs.Accessors.{AreNumbersOf, tree_at};
+ghost use Rattle.doc_tables.specs.Accessors.{AreNumbersOf, IsShape, tree_at};
 ghost use Rattle.doc_tables.specs.Numbered.{slot_at};
 ghost use Rattle.doc_rules.specs.Found.{MeetsFault};
 ghost use Rattle.doc_rules.specs.KindFaults.{fault_at, fault_of_sort};
@@ -32,19 +33,19 @@ pub fn wanted_sort(tables: &Tables, slot: SlotId) -> Option<Sort>
     tables.type_of(slot).map(|prop| prop.sort())
 }
 
-/// The sort of a slot's expression by the sorts so far.
-fn sort_of_tree(
+/// The sort of a slot's expression, of this shape, by the sorts so far.
+fn sort_of_shape(
     alloc: Global,
     tables: &Tables,
     sorts: &[SortOutcome],
     slot: SlotId,
-    tree: &Expr,
+    shape: &Expr,
 ) -> Result<SortOutcome, AllocError>
     requires live { IsSome (slot_at tables.now slot.0) }
-    requires bound { tree_at tables.now slot.0 ≡ Some tree.now }
-    requires few { reference_count tree.now < 2 ^ 32 }
-    ensures { IfOk result (λ found. option_map (λ o. sort_of
-        (sort_reading tables.now.document o tree.now (sort_by_number tables.now sorts.now)) 0 tree.now)
+    requires shape { IsShape (tree_at tables.now slot.0) (Some shape.now) }
+    requires few { reference_count shape.now < 2 ^ 32 }
+    ensures { IfOk result (λ found. (e : Tree) → tree_at tables.now slot.0 ≡ Some e → option_map (λ o. sort_of
+        (sort_reading tables.now.document o e (sort_by_number tables.now sorts.now)) 0 e)
         (object_behind tables.now slot.0) ≡ Some found) }
 {
     tables.is_numbered(); // for the proof
@@ -54,7 +55,7 @@ fn sort_of_tree(
         references: &references,
         sorts,
     };
-    match sort_of(alloc, tree, &env) {
+    match sort_of(alloc, shape, &env) {
         Ok(sort) => Ok(Ok(sort)),
         Err(SortFault::Cause(cause)) => Ok(Err(cause)),
         Err(SortFault::Memory(error)) => Err(error),
@@ -76,9 +77,9 @@ fn sort_of_slot(
     if let Some(value) = tables.own_value(slot) {
         return Ok(own_as(wanted, value));
     }
-    match tables.expression_of(slot) {
-        Some(tree) => {
-            let found = sort_of_tree(alloc, tables, sorts, slot, tree)?;
+    match tables.shape_of(slot) {
+        Some(shape) => {
+            let found = sort_of_shape(alloc, tables, sorts, slot, shape)?;
             Ok(given_as(wanted, found))
         }
         None => Ok(wanted_as(wanted)),

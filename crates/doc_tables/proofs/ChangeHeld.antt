@@ -30,7 +30,7 @@ use Rattle.doc_tables.specs.declared.entry.SlotKey.{SlotKey}
 use Rattle.doc_tables.specs.declared.entry.SlotPlace.{SlotPlace}
 use Rattle.doc_tables.specs.declared.tables.Tables.TheInside.{Inside}
 use Rattle.doc_tables.specs.Entries.{HasFewReferences}
-use Rattle.doc_tables.specs.Held.{property_held, object_held, object_numbered, slot_of_key, slots_of_keys, document_held, entry_at, place_of_key, numbered_held, IsHeld}
+use Rattle.doc_tables.specs.Held.{property_held, object_held, object_numbered, slot_of_key, slots_of_keys, document_held, entry_at, place_of_key, numbered_held, HoldsReached, IsHeld}
 use Rattle.doc_tables.specs.Labels.{AreByLabel}
 use Rattle.doc_tables.specs.Numbered.{Numbered, LeadsTo, at_number, name_at, object_at, slot_at}
 use Rattle.doc_tables.specs.Primitives.{IsContentAt, lacks_property}
@@ -157,8 +157,8 @@ module _ (v : Numbered) (t : Inside) (held : IsHeld t) (is : numbered_held t ≡
   -- the same document with the same numbers
   module _ (u : Inside) (objects : map shown u.objects.entries ≡ map shown t.objects.entries) (names : u.object_names.items ≡ t.object_names.items) (keys : u.slot_keys.items ≡ t.slot_keys.items)
       (next_object : u.free_object ≡ t.free_object) (next_slot : u.free_slot ≡ t.free_slot) (numbers : u.by_label.items ≡ t.by_label.items) where
-    pub kept-held : IsHeld u
-    kept-held =
+    pub kept-held : HoldsReached u → IsHeld u
+    kept-held reached =
         let os = map shown t.objects.entries in
         still-held u os objects (entries-shown t held)
         (subst (λ (l : List (Option (List ℕ))). IsTable l (map number_by os)) (sym names) (names-shown t held))
@@ -167,6 +167,7 @@ module _ (v : Numbered) (t : Inside) (held : IsHeld t) (is : numbered_held t ≡
         (subst (HasRoom u.object_names.items) (sym next_object) (subst (λ (l : List (Option (List ℕ))). HasRoom l t.free_object) (sym names) held.object_room))
         (subst (HasRoom (slots_of_keys u.slot_keys.items)) (sym next_slot) (subst (λ (l : List (Option SlotKey)). HasRoom (slots_of_keys l) t.free_slot) (sym keys) held.slot_room))
         (subst IsWellFormed (sym (document-of u os objects ∙ sym (document-shown t.objects.entries))) held.form)
+        reached
 
     pub kept-view : numbered_held u ≡ v
     kept-view =
@@ -195,8 +196,8 @@ module _ (v : Numbered) (t : Inside) (held : IsHeld t) (is : numbered_held t ≡
         }
 
     pub added-held : length v.document.objects + 1 < 2 ^ 32 → length u.object_names.items < 2 ^ 32 → u.free_object ≡ n + 1 → u.free_slot ≡ t.free_slot
-        → IsTrue (is_name name) → IsTrue (is_label label) → AreByLabel u.by_label.items (map labelled_by (one_more (map shown t.objects.entries) name label n)) → IsHeld u
-    added-held few small next_object next_slot named labelled labels =
+        → IsTrue (is_name name) → IsTrue (is_label label) → AreByLabel u.by_label.items (map labelled_by (one_more (map shown t.objects.entries) name label n)) → HoldsReached u → IsHeld u
+    added-held few small next_object next_slot named labelled labels reached =
         let os = map shown t.objects.entries in
         let count : length (map object_held t.objects.entries) ≡ length v.document.objects = ap (λ (w : Numbered). length w.document.objects) is in
         still-held u (one_more os name label n) objects
@@ -212,6 +213,7 @@ module _ (v : Numbered) (t : Inside) (held : IsHeld t) (is : numbered_held t ≡
         (subst (HasRoom (slots_of_keys u.slot_keys.items)) (sym next_slot) (subst (λ (l : List (Option SlotKey)). HasRoom (slots_of_keys l) t.free_slot) (sym keys) held.slot_room))
         (subst IsWellFormed (sym added-leads.document)
         (IsWellFormed-with_object v.document (new_object name label VarSet) (form-seen v t held is) (IsObject-new_object name label VarSet named labelled tt) new))
+        reached
 
 -- ---- one more property
 module _ (v : Numbered) (t : Inside) (held : IsHeld t) (is : numbered_held t ≡ v) (number : ℕ) (owner : List ℕ) (live : Some owner ≡ name_at v number) where
@@ -306,8 +308,8 @@ module _ (v : Numbered) (t : Inside) (held : IsHeld t) (is : numbered_held t ≡
             }
 
         pub filled-held : ((m : ℕ) → m < entry.slot.0 → IsSome (slot_at v m)) → length (slots v.document) + 1 < 2 ^ 32 → length u.slot_keys.items < 2 ^ 32 → u.free_object ≡ t.free_object → u.free_slot ≡ entry.slot.0 + 1
-            → IsTrue (is_dynamic_name VarSet name) → IsTrue (is_added_type entry.prop) → u.by_label.items ≡ t.by_label.items → IsHeld u
-        filled-held used few small next_object next_slot named added numbers =
+            → IsTrue (is_dynamic_name VarSet name) → IsTrue (is_added_type entry.prop) → u.by_label.items ≡ t.by_label.items → HoldsReached u → IsHeld u
+        filled-held used few small next_object next_slot named added numbers reached =
             still-held u (one_filled os i (shown o) name entry) objects
             (filled-entries os i (shown o) name entry shown-at (entries-shown t held) (record { one_slot = one; references = few-references }) no-name
             (omega (arith, slots-counted v t held is, sum_by-map (λ (x : Shown). length x.2) shown t.objects.entries)))
@@ -324,6 +326,7 @@ module _ (v : Numbered) (t : Inside) (held : IsHeld t) (is : numbered_held t ≡
             (IsWellFormed-with_property v.document owner (object_held o) (new_property name entry.prop) (form-seen v t held is) (ap (option_and_then (object_named v.document)) live ∙ found-object) refl
             (IsProperty-new_property VarSet name entry.prop named added)
             (ap (list_any (pointwise nat_eq name)) (map-map (λ (p : Property). p.name) property_held o.1.properties.entries) ∙ no-name)))
+            reached
 
 -- ---- another content
 module _ (v : Numbered) (t : Inside) (held : IsHeld t) (is : numbered_held t ≡ v) (n : ℕ) (key : SlotKey) (h : Some key ≡ at_number t.slot_keys.items n) where
@@ -380,8 +383,8 @@ module _ (v : Numbered) (t : Inside) (held : IsHeld t) (is : numbered_held t ≡
       own-type : option_and_then (type_of v.document) (slot_at v n) ≡ Some k.at.entry.1.prop
       own-type = subst (λ (w : Numbered). option_and_then (type_of w.document) (slot_at w n) ≡ Some k.at.entry.1.prop) is (entry-held t held n k.at).type
 
-      pub written-held : HasFewReferences new → u.free_object ≡ t.free_object → u.free_slot ≡ t.free_slot → IsContentAt v n new → u.by_label.items ≡ t.by_label.items → IsHeld u
-      written-held few next_object next_slot fits numbers =
+      pub written-held : HasFewReferences new → u.free_object ≡ t.free_object → u.free_slot ≡ t.free_slot → IsContentAt v n new → u.by_label.items ≡ t.by_label.items → HoldsReached u → IsHeld u
+      written-held few next_object next_slot fits numbers reached =
           let os : List Shown = map shown t.objects.entries in
           let o : Shown = shown k.at.owner in
           let e : Named = k.at.entry in
@@ -398,3 +401,4 @@ module _ (v : Numbered) (t : Inside) (held : IsHeld t) (is : numbered_held t ≡
           (subst IsWellFormed (sym (written-leads own-slot own-found).document)
           (IsWellFormed-with_typed_content v.document own-slot k.at.entry.1.prop new (form-seen v t held is)
           (sym (ap (option_and_then (type_of v.document)) own-found) ∙ own-type) (fits k.at.entry.1.prop own-type)))
+          reached

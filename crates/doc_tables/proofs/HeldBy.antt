@@ -12,7 +12,7 @@ use Rattle.document_model.specs.Document.{Document, Object}
 use Rattle.document_model.specs.WellFormed.{IsWellFormed}
 use Rattle.document_model.specs.Edited.{new_object}
 use Rattle.doc_tables.specs.declared.tables.Tables.TheInside.{Inside}
-use Rattle.doc_tables.specs.Held.{property_held, slots_numbered, slots_of_keys, document_held, IsPropertyHeld, IsObjectHeld, IsHeld}
+use Rattle.doc_tables.specs.Held.{property_held, slots_numbered, slots_of_keys, document_held, IsPropertyHeld, IsObjectHeld, HoldsReached, IsHeld}
 use Rattle.doc_tables.specs.Labels.{AreByLabel, Labelled}
 use Rattle.doc_tables.specs.Shown.{Shown, shown}
 use Rattle.doc_tables.specs.Table.{HasRoom, IsTable}
@@ -88,8 +88,8 @@ module _ (t : Inside) where
     pub still-held :
         AreEntries objects → IsTable t.object_names.items (map number_by objects) → IsTable (slots_of_keys t.slot_keys.items) (flat_map slots_by objects)
         → AreByLabel t.by_label.items (map labelled_by objects)
-        → HasRoom t.object_names.items t.free_object → HasRoom (slots_of_keys t.slot_keys.items) t.free_slot → IsWellFormed (document_held t.objects.entries) → IsHeld t
-    still-held h names slots labels object_room slot_room form =
+        → HasRoom t.object_names.items t.free_object → HasRoom (slots_of_keys t.slot_keys.items) t.free_slot → IsWellFormed (document_held t.objects.entries) → HoldsReached t → IsHeld t
+    still-held h names slots labels object_room slot_room form reached =
         let es = t.objects.entries in
         let own : AreEntries (map shown es) = subst AreEntries (sym same) h in
         record {
@@ -109,6 +109,7 @@ module _ (t : Inside) where
           object_room = object_room;
           slot_room = slot_room;
           form = form;
+          reached = reached;
         }
 
     pub document-of : document_held t.objects.entries ≡ document_by objects

@@ -26,3 +26,5 @@ pub mod RemoveLists
 pub mod RemoveLemmas
 pub mod LabelsHeld
 pub mod RemoveHeld
+pub mod ShapeLemmas
+pub mod ReachedLemmas

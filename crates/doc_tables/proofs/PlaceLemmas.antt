@@ -18,7 +18,7 @@ use Rattle.doc_tables.specs.FindsAll.{FindsAll}
 use Rattle.doc_tables.specs.Labels.{first_of_label}
 use Rattle.doc_tables.specs.Held.{object_held, document_held, numbered_held, IsHeld}
 use Rattle.doc_tables.specs.Numbered.{Numbered, at_number, name_at, object_at, slot_at}
-use Rattle.doc_tables.proofs.Finding.{find-map, find-place, find-position}
+use Rattle.doc_tables.proofs.Finding.{find-map, find-place, find-position, find-same, lookup-find, same_text-sym}
 use Rattle.doc_tables.proofs.LabelsHeld.{label-found}
 use Rattle.doc_tables.proofs.HeldLemmas.{Owned, Owns, in-at, name_at-held, object-found, owner-looked, owns-held}
 
@@ -87,6 +87,19 @@ module _ (v : Numbered) (t : Inside) (held : IsHeld t) (is : numbered_held t ≡
   named-number name place entry id at e h =
       subst (λ (w : Numbered). IsNumberOfObject w id (object_named w.document name)) is
       (ap (option_map (λ (x : ObjectId). name_at (numbered_held t) x.0)) (number-told place entry id e h ∙ ap (λ (p : Option ℕ). number_found (option_and_then (slice_get t.objects.entries) p)) at) ∙ named-held t held name)
+
+  pub looked-number : (name : List ℕ) (entry : Option ObjectEntry) (id : Option ObjectId) → entry ≡ lookup (pointwise nat_eq name) t.objects.entries → id ≡ option_map (λ (e : ObjectEntry). e.number) entry
+      → IsNumberOfObject v id (object_named v.document name)
+  looked-number name entry id at h =
+      let es = t.objects.entries in
+      let test : Owned → Bool = λ o. same_text o.0 name in
+      let found : entry ≡ option_map (λ (o : Owned). o.1) (find test es) =
+      at ∙ lookup-find (pointwise nat_eq name) es ∙ ap (option_map (λ (o : Owned). o.1)) (find-same (λ (o : Owned). pointwise nat_eq name o.0) test es (λ o. same_text-sym name o.0))
+      in
+      subst (λ (w : Numbered). IsNumberOfObject w id (object_named w.document name)) is
+      (ap (option_map (λ (x : ObjectId). name_at (numbered_held t) x.0)) (h ∙ ap (option_map (λ (x : ObjectEntry). x.number)) found)
+      ∙ number-found t held (find test es) (λ o k. find-place test es o k)
+      ∙ ap (option_map (λ (o : Object). Some o.name)) (sym (find-map object_held (λ q. same_text q.name name) es)))
 
   pub labelled-number : (label : List ℕ) (id : Option ObjectId) → id ≡ first_of_label t.object_names.items t.objects.entries label t.by_label.items → IsNumberOfObject v id (object_labelled v.document label)
   labelled-number label id h =

@@ -20,7 +20,7 @@ use Rattle.doc_tables.specs.declared.entry.ObjectEntry.{ObjectEntry}
 use Rattle.doc_tables.specs.declared.entry.PropertyEntry.{PropertyEntry}
 use Rattle.doc_tables.specs.declared.entry.SlotKey.{SlotKey}
 use Rattle.doc_tables.specs.declared.tables.Tables.TheInside.{Inside}
-use Rattle.doc_tables.specs.Held.{property_held, object_held, object_numbered, slot_of_key, slots_numbered, slots_of_keys, document_held, numbered_held, IsObjectHeld, IsHeld}
+use Rattle.doc_tables.specs.Held.{property_held, object_held, object_numbered, slot_of_key, slots_numbered, slots_of_keys, document_held, numbered_held, IsObjectHeld, HoldsReached, IsHeld}
 use Rattle.doc_tables.specs.Labels.{AreByLabel, labelled}
 use Rattle.doc_tables.specs.Numbered.{Numbered, Keeps, LeadsTo, at_number, name_at}
 use Rattle.doc_tables.specs.Primitives.{lacks_property}
@@ -183,7 +183,7 @@ module _ (v : Numbered) (t : Inside) (held : IsHeld t) (is : numbered_held t ≡
           false≢true (sym other ∙ ap (λ (n : ℕ). nat_eq n slot.0) number_is ∙ nat_eq-refl slot.0)))))
           k
 
-      module _ (u : Inside) (objects : map shown u.objects.entries ≡ change_at (without_entry name) i os) (names : u.object_names.items ≡ t.object_names.items)
+      module _ (u : Inside) (reached : HoldsReached u) (objects : map shown u.objects.entries ≡ change_at (without_entry name) i os) (names : u.object_names.items ≡ t.object_names.items)
           (freed : (m : ℕ) → at_number u.slot_keys.items m ≡ cond (nat_eq m slot.0) None (at_number t.slot_keys.items m)) (same : length u.slot_keys.items ≡ length t.slot_keys.items)
           (next_object : u.free_object ≡ t.free_object) (next_slot : u.free_slot ≡ min t.free_slot slot.0) (same_numbers : u.by_label.items ≡ t.by_label.items) where
         abbrev after : List (Option Slot)
@@ -214,6 +214,7 @@ module _ (v : Numbered) (t : Inside) (held : IsHeld t) (is : numbered_held t ≡
             (λ m k. omega arith) (λ m k. nat_eq-below m slot.0 (omega arith))
             (length-map u.slot_keys.items map-key ∙ same ∙ sym (length-map t.slot_keys.items map-key))))
             (subst IsWellFormed (sym property-document) (IsWellFormed-without_property (document_held t.objects.entries) own.0 name held.form))
+            reached
 
         pub property-leads : (q : List ℕ) → name_at v number ≡ Some q → LeadsTo v (numbered_held u) (without_property v.document q name)
         property-leads q named =
@@ -331,7 +332,7 @@ module _ (v : Numbered) (t : Inside) (held : IsHeld t) (is : numbered_held t ≡
         false≢true (sym other ∙ any-of y.0 numbers mine)))
         f.2
 
-    module _ (u : Inside) (objects : u.objects.entries ≡ left) (unique : IsUnique (pointwise nat_eq) u.objects)
+    module _ (u : Inside) (reached : HoldsReached u) (objects : u.objects.entries ≡ left) (unique : IsUnique (pointwise nat_eq) u.objects)
         (names : (m : ℕ) → at_number u.object_names.items m ≡ cond (nat_eq m number) None (at_number t.object_names.items m)) (same_names : length u.object_names.items ≡ length t.object_names.items)
         (keys : (m : ℕ) → at_number u.slot_keys.items m ≡ freed_at numbers m (at_number t.slot_keys.items m)) (same_keys : length u.slot_keys.items ≡ length t.slot_keys.items)
         (next_object : u.free_object ≡ min t.free_object number) (next_slot : (m : ℕ) → m < u.free_slot → IsSome (at_number u.slot_keys.items m))
@@ -375,6 +376,7 @@ module _ (v : Numbered) (t : Inside) (held : IsHeld t) (is : numbered_held t ≡
               few = subst (λ (n : ℕ). n < 2 ^ 32) (sym (length-map u.slot_keys.items map-key ∙ same_keys ∙ sym (length-map t.slot_keys.items map-key))) held.slot_room.few;
             };
             form = subst IsWellFormed (sym document-left) (IsWellFormed-without_object (document_held t.objects.entries) owner held.form);
+            reached = reached;
           }
 
       pub object-leads : (q : List ℕ) → name_at v number ≡ Some q → LeadsTo v (numbered_held u) (without_object v.document q)

@@ -3,11 +3,13 @@ use Rattle.std.specs.Prelude.{◌≡◌, ℕ, List, [], map, Option, Some, None}
 use Rattle.std.specs.Option.{option_and_then, option_map, option_map_or}
 use Rattle.fc_base.specs.declared.ids.ObjectId.{ObjectId}
 use Rattle.fc_base.specs.declared.ids.SlotId.{SlotId}
+use Rattle.fc_base.specs.Places.{Block}
 use Rattle.object_paths.specs.declared.path.Owner.TheVariants.{ByName}
+use Rattle.object_paths.specs.declared.path.Path.{Path}
 use Rattle.object_paths.specs.PathTexts.{path_text}
 use Rattle.object_paths.specs.Slots.{Slot}
 use Rattle.property_types.specs.declared.value.Value.{Value}
-use Rattle.expr_tree.specs.References.{references}
+use Rattle.expr_tree.specs.References.{references, with_references}
 use Rattle.expr_tree.specs.Tree.{Tree}
 use Rattle.document_model.specs.Document.{Document, Object, object_named}
 use Rattle.document_model.specs.Slots.{Rule, own, bound, inherit, global, output, rule_of}
@@ -75,6 +77,18 @@ AreReached t ids slots = map (option_map (λ (id : SlotId). slot_at t id.0)) ids
 -- the path of a slot from outside
 abbrev pub outside_path : Slot → List ℕ
 outside_path s = path_text (record { owner = ByName s.object; slot = s.name })
+
+-- two trees that are one once the same path stands for each path, and the same area for each area
+abbrev pub IsShapeOf : Tree → Tree → Type 0
+IsShapeOf written shape =
+    (p : Path) (area : Block) → with_references (λ _. p) (λ _. area) shape ≡ with_references (λ _. p) (λ _. area) written
+
+-- the shape of an expression, if there is one
+abbrev pub IsShape : Option Tree → Option Tree → Type 0
+IsShape None None = Unit {0}
+IsShape None (Some shape) = ⊥
+IsShape (Some written) None = ⊥
+IsShape (Some written) (Some shape) = IsShapeOf written shape
 
 -- what a rule is in the code
 abbrev pub IsRule : Numbered → RuleSeen → Rule → Type 0

@@ -1,5 +1,5 @@
 -- The document that tables hold, and how they hold it.
-use Rattle.std.specs.Prelude.{◌≢◌, ◌^◌, ◌<◌, ℕ, List, [], ◌∷◌, map, length, sum_by, slice_get, nat_eq, position, Option}
+use Rattle.std.specs.Prelude.{◌≢◌, ◌^◌, ◌<◌, ℕ, List, [], ◌∷◌, map, length, sum_by, slice_get, nat_eq, position, IfSome, Option}
 use Rattle.std.specs.Cmp.Lexicographic.{pointwise}
 use Rattle.std.specs.List.{flat_map, AllByRecursion}
 use Rattle.std.specs.Map.{keys_of}
@@ -15,6 +15,7 @@ use Rattle.document_model.specs.Edited.{new_object, new_property}
 use Rattle.doc_tables.specs.Entries.{HasFewReferences}
 use Rattle.doc_tables.specs.Labels.{AreByLabel, labelled}
 use Rattle.doc_tables.specs.Numbered.{Numbered}
+use Rattle.doc_tables.specs.Reached.{AreAllReached, lists_of}
 use Rattle.doc_tables.specs.Table.{HasRoom, IsTable}
 use Rattle.doc_tables.specs.declared.entry.ObjectEntry.{ObjectEntry}
 use Rattle.doc_tables.specs.declared.entry.PropertyEntry.{PropertyEntry}
@@ -72,6 +73,10 @@ numbered_held t = record {
   slots = slots_of_keys t.slot_keys.items;
 }
 
+-- what references lead to is what they name, where it was worked out
+abbrev pub HoldsReached : Inside → Type 0
+HoldsReached t = IfSome t.reached (λ lists. AreAllReached (numbered_held t) (lists_of lists.items))
+
 -- a property of one slot
 pub record IsPropertyHeld (e : List ℕ × PropertyEntry) : Type 0 where
   pub one_slot : e.1.prop ≢ Placement
@@ -94,3 +99,4 @@ pub record IsHeld (t : Inside) : Type 0 where
   pub object_room : HasRoom t.object_names.items t.free_object
   pub slot_room : HasRoom (slots_of_keys t.slot_keys.items) t.free_slot
   pub form : IsWellFormed (document_held t.objects.entries)
+  pub reached : HoldsReached t

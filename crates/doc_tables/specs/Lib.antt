@@ -10,3 +10,4 @@ pub mod Entries
 pub mod Counted
 pub mod Shown
 pub mod Labels
+pub mod Reached

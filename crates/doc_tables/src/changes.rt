@@ -145,6 +145,7 @@ impl Tables {
             label,
             properties,
         };
+        self.reached = None;
         insert_object(&mut self.objects, name, entry)?;
         put(&mut self.object_names, number.0, own_name);
         insert_number(&mut self.by_label, place, number);
@@ -174,6 +175,7 @@ impl Tables {
         let key = self.key_for(object, &name)?;
         let entry = new_entry(*self.objects.allocator(), slot, prop)?;
         let place = self.objects.get_index_of(&key.object).unwrap();
+        self.reached = None;
         self.slot_keys.reserve(1)?;
         push_property(&mut self.objects, place, name, entry)?;
         put(&mut self.slot_keys, slot.0, key);
@@ -193,6 +195,7 @@ impl Tables {
         let key = thing_at(&self.slot_keys, slot.0);
         let place = place_of(&self.objects, key).unwrap();
         put_content(&mut self.objects, place, rule);
+        self.reached = None;
         Ok(())
     }
 }

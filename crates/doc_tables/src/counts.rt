@@ -7,6 +7,7 @@ ghost use Rattle.doc_tables.specs.Counted.{dependencies_of_object, nodes_of_cont
 ghost use Rattle.doc_tables.specs.Numbered.{name_at};
 
 use crate::entry::{ObjectEntry, PropertyEntry};
+use crate::reached::reached_of_objects;
 use crate::tables::Tables;
 use document_model::Content;
 use expr_tree::{Argument, Expr, Node};
@@ -159,9 +160,8 @@ impl Tables {
         }
     }
 
-    /// The number of dependencies of all slots, each counted as often as it stands; `u64::MAX` where
-    /// there are more. Each reference of the document is resolved.
-    pub fn dependency_count(&self) -> u64
+    /// The same of all slots, each reference resolved.
+    fn resolved_count(&self) -> u64
         ensures { result ≡ min (dependencies_of_document self.now.document) u64.MAX }
     {
         let mut count: u64 = 0;
@@ -169,5 +169,16 @@ impl Tables {
             count = count.saturating_add(self.dependencies_of_object(place));
         }
         count
+    }
+
+    /// The number of dependencies of all slots, each counted as often as it stands; `u64::MAX` where
+    /// there are more. Each reference is visited, and resolved unless `resolve_references` did that.
+    pub fn dependency_count(&self) -> u64
+        ensures { result ≡ min (dependencies_of_document self.now.document) u64.MAX }
+    {
+        match &self.reached {
+            Some(lists) => reached_of_objects(&self.objects, lists),
+            None => self.resolved_count(),
+        }
     }
 }

@@ -1,9 +1,10 @@
 //! A document as tables: objects and properties by name, slots by number.
 //!
-//! `Tables` holds a document of VarSets. It answers by name (`object_named`, `resolve`), by label
-//! (`object_labelled`), by place (`object_at`, `slot_at`) and by number (`own_value`, `expression_of`,
-//! `deps_of`, `dependency_lists`), and is changed by five primitives (`add_object`, `add_property`,
-//! `set_rule`, `remove_property`, `remove_object`). Numbers of objects and slots stay as long as what
+//! `Tables` holds a document of VarSets. It answers by name (`object_of`, `resolve`), by label
+//! (`object_labelled`), by place (`object_at`, `slot_at`) and by number (`own_value`, `shape_of`,
+//! `references_of`, `deps_of`, `dependency_lists`), and is changed by five primitives (`add_object`,
+//! `add_property`, `set_rule`, `remove_property`, `remove_object`). `resolve_references` works out at once
+//! what all references lead to. Numbers of objects and slots stay as long as what
 //! they name, and are free then. `is_property_name` tells which names a property may be added under,
 //! `limits` how large a document may be. What a document means, and which documents are refused, is not
 //! known here.
@@ -23,6 +24,7 @@ pub mod limits;
 mod numbers;
 mod objects;
 mod property_names;
+mod reached;
 mod removals;
 mod rule;
 mod slots;

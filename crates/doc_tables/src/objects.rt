@@ -120,8 +120,15 @@ impl Tables {
         number_of(entry_at(&self.objects, Some(place as usize)))
     }
 
+    /// The object of that name; none exactly where there is none. It is found by one look-up.
+    pub fn object_of(&self, name: &Name) -> Option<ObjectId>
+        ensures { IsNumberOfObject self.now result (object_named self.now.document name.now) }
+    {
+        number_of(self.objects.get(name))
+    }
+
     /// The first object of that name; none exactly where there is none. The objects are looked through
-    /// from the first.
+    /// from the first; for a `Name` there is `object_of`.
     pub fn object_named(&self, name: &str) -> Option<ObjectId>
         ensures { IsNumberOfObject self.now result (object_named self.now.document name.now) }
     {

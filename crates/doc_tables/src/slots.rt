@@ -4,7 +4,7 @@ ghost use Rattle.std.specs.Option.{option_and_then};
 ghost use Rattle.fc_base.specs.Texts.{is_text_value};
 ghost use Rattle.expr_tree.specs.References.{reference_count};
 ghost use Rattle.document_model.specs.Slots.{slots, type_of};
-ghost use Rattle.doc_tables.specs.Accessors.{AreNumbersOf, IsNumberOf, IsRule, outside_path, own_at, rule_at, tree_at};
+ghost use Rattle.doc_tables.specs.Accessors.{AreNumbersOf, IsNumberOf, IsRule, IsShape, outside_path, own_at, rule_at, tree_at};
 ghost use Rattle.doc_tables.specs.Entries.{IsEntryOf, numbers_in};
 ghost use Rattle.doc_tables.specs.Held.{slot_of_key};
 ghost use Rattle.doc_tables.specs.Numbered.{name_at, slot_at};
@@ -117,10 +117,12 @@ impl Tables {
         }
     }
 
-    /// The expression of a slot; none exactly where its rule is another.
-    pub fn expression_of(&self, slot: SlotId) -> Option<&Expr>
+    /// The shape of a slot's expression; none exactly where its rule is another. Which paths and areas
+    /// stand in it is not said: `references_of` tells what each of its references leads to, and `bound_of`
+    /// answers the expression as it is written.
+    pub fn shape_of(&self, slot: SlotId) -> Option<&Expr>
         requires { IsSome (slot_at self.now slot.0) }
-        ensures expression { option_map (λ e. e.now) result ≡ tree_at self.now slot.0 }
+        ensures shape { IsShape (tree_at self.now slot.0) (option_map (λ e. e.now) result) }
         ensures references { IfSome result (λ e. reference_count e.now < 2 ^ 32) }
     {
         match &self.entry_of(slot).content {
@@ -140,14 +142,14 @@ impl Tables {
         }
     }
 
-    /// A copy of the expression of a slot; none exactly where its rule is another.
+    /// A copy of the expression of a slot as it is written; none exactly where its rule is another.
     pub fn bound_of(&self, alloc: Global, slot: SlotId) -> Result<Option<Expr>, AllocError>
         requires { IsSome (slot_at self.now slot.0) }
         ensures { IfOk result (λ e. e ≡ tree_at self.now slot.0) }
     {
-        match self.expression_of(slot) {
-            None => Ok(None),
-            Some(expression) => Ok(Some(expression.copy(alloc)?)),
+        match &self.entry_of(slot).content {
+            Content::Own(_) => Ok(None),
+            Content::Bound(expression) => Ok(Some(expression.copy(alloc)?)),
         }
     }
 

@@ -10,7 +10,7 @@ ghost use Rattle.doc_tables.specs.VarSets.{HoldsVarSets};
 
 use crate::entry::{ObjectEntry, PropertyEntry, SlotKey};
 use crate::insertion::{insert_object, insert_property};
-use fc_base::{Name, ObjectId};
+use fc_base::{Name, ObjectId, SlotId};
 use indexmap::IndexMap;
 use object_paths::laws::slot_test_is_exact;
 use std::alloc::{AllocError, Global};
@@ -32,6 +32,9 @@ pub struct Tables {
     pub(crate) free_object: usize,
     /// No number of a slot below is free.
     pub(crate) free_slot: usize,
+    /// By the numbers of slots, what the references of their expressions lead to. None where an edit may
+    /// have changed that since it was worked out.
+    pub(crate) reached: Option<Vec<Vec<Option<SlotId>>>>,
 }
 
 impl Model for Tables {
@@ -154,10 +157,12 @@ impl Tables {
             by_label: Vec::new(alloc),
             free_object: 0,
             free_slot: 0,
+            reached: None,
         }
     }
 
-    /// Equal tables, with the same numbers. This costs as much as the document is large.
+    /// Equal tables, with the same numbers. This costs as much as the document is large. What references
+    /// lead to is not copied.
     pub fn copy(&self, alloc: Global) -> Result<Tables, AllocError>
         ensures { IfOk result (λ tables. tables ≡ self.now) }
     {
@@ -172,6 +177,7 @@ impl Tables {
             by_label,
             free_object: self.free_object,
             free_slot: self.free_slot,
+            reached: None,
         })
     }
 

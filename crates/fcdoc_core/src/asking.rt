@@ -56,9 +56,9 @@ pub(crate) fn expression_reply(
     ensures named { (r : Refusal) → result ≡ Err (Refused r) → IsNamed r }
 {
     let slot = slot_commanded(tables, path)?;
-    match tables.expression_of(slot) {
+    match tables.bound_of(alloc, slot)? {
         Some(tree) => {
-            let text = print(alloc, tree)?;
+            let text = print(alloc, &tree)?;
             Ok(Reply::Expression(Some(ExprText::of(text))))
         }
         None => Ok(Reply::Expression(None)),

@@ -7,3 +7,4 @@ pub mod SumLemmas
 pub mod OrderLemmas
 pub mod FullLemmas
 pub mod CountLemmas
+pub mod ShapeLemmas

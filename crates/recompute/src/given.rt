@@ -1,7 +1,6 @@
 ghost use Rattle.std.specs.Prelude.{◌≡◌, ◌+◌, ◌-◌, ◌<◌, ◌≤◌, ◌^◌, IfOk, IsSome, OnOk, Some, min};
-ghost use Rattle.expr_tree.specs.Nodes.{node_count};
 ghost use Rattle.expr_tree.specs.References.{reference_count};
-ghost use Rattle.doc_tables.specs.Accessors.{tree_at};
+ghost use Rattle.doc_tables.specs.Accessors.{IsShape, tree_at};
 ghost use Rattle.doc_tables.specs.Numbered.{slot_at};
 ghost use Rattle.document_outcomes.specs.Typed.{no_features};
 ghost use Rattle.recompute.specs.Kept.{IsGiven};
@@ -16,23 +15,23 @@ use fc_base::{SlotId, Steps};
 use property_types::{Outcome, ValueFault};
 use std::alloc::{AllocError, Global};
 
-/// What the expression of a slot gives for the outcomes that are kept.
-fn given_by_tree<L>(
+/// What the expression of a slot, of this shape, gives for the outcomes that are kept.
+fn given_by_shape<L>(
     alloc: Global,
     tables: &Tables,
     slot: SlotId,
-    tree: &Expr,
+    shape: &Expr,
     outcomes: &[Option<Outcome>],
     steps: &mut Steps<L>,
 ) -> Result<Outcome, AllocError>
     requires slot { IsSome (slot_at tables.now slot.0) }
-    requires tree { tree_at tables.now slot.0 ≡ Some tree.now }
-    requires references { reference_count tree.now < 2 ^ 32 }
+    requires shape { IsShape (tree_at tables.now slot.0) (Some shape.now) }
+    requires references { reference_count shape.now < 2 ^ 32 }
     requires counted { steps.old < 2 ^ 64 }
     ensures outcome { IfOk result (IsGiven no_features tables.now outcomes.now slot.0) }
     ensures steps { OnOk result (steps.new ≡ min (steps.old + visits_kept tables.now outcomes.now slot.0) (2 ^ 64 - 1)) }
     ensures never_less { steps.old ≤ steps.new }
-    ensures at_most { steps.new ≤ min (steps.old + node_count tree.now) (2 ^ 64 - 1) }
+    ensures at_most { steps.new ≤ min (steps.old + nodes_at tables.now slot.0) (2 ^ 64 - 1) }
 {
     tables.is_numbered(); // for the proof
     tables.holds_var_sets(); // for the proof
@@ -42,7 +41,7 @@ fn given_by_tree<L>(
         outcomes,
         unknown: Err(ValueFault::Range),
     };
-    let given = evaluate(alloc, tree, &behind, steps)?;
+    let given = evaluate(alloc, shape, &behind, steps)?;
     fitted(alloc, tables.type_of(slot), given)
 }
 
@@ -66,8 +65,8 @@ pub fn given<L>(
     tables.holds_var_sets(); // for the proof
     match tables.own_value(slot) {
         Some(value) => Ok(Ok(value.copy(alloc)?)),
-        None => match tables.expression_of(slot) {
-            Some(tree) => given_by_tree(alloc, tables, slot, tree, outcomes, steps),
+        None => match tables.shape_of(slot) {
+            Some(shape) => given_by_shape(alloc, tables, slot, shape, outcomes, steps),
             None => Ok(Err(ValueFault::Range)),
         },
     }

@@ -2,7 +2,7 @@
 use crate::building::{add_line, slot_named};
 use crate::faults::document_of;
 use doc_tables::{Rule, Tables};
-use fc_base::Name;
+use fc_base::{Name, SlotId};
 use object_paths::SlotName;
 use std::alloc::Global;
 use std::test::Fail;
@@ -81,6 +81,36 @@ fn removes_what_is_asked(rt: HostRuntime) -> Result<(), Fail> {
         assert!(rt; path_at(rt.alloc(), &tables, 0)?.as_str() == *first);
         assert!(rt; path_at(rt.alloc(), &tables, 1)?.as_str() == *second);
     }
+    Ok(())
+}
+
+/// Whether the references of a slot's expression lead to these slots.
+fn leads_to(
+    alloc: Global,
+    tables: &Tables,
+    path: (&str, &str),
+    want: &[Option<SlotId>],
+) -> Result<bool, Fail> {
+    let slot = slot_named(alloc, tables, path.0, path.1)?;
+    let references = tables.references_of(alloc, slot)?;
+    Ok(references.as_slice() == want)
+}
+
+/// What references lead to is the same before and after it is worked out, and follows a removal.
+#[test]
+fn references_follow_a_removal(rt: HostRuntime) -> Result<(), Fail> {
+    let mut tables = three_slots(rt.alloc())?;
+    let a = slot_named(rt.alloc(), &tables, "A", "a")?;
+    let c = slot_named(rt.alloc(), &tables, "B", "c")?;
+    assert!(rt; leads_to(rt.alloc(), &tables, ("B", "b"), &[Some(a), None, Some(c)])?);
+    tables.resolve_references()?;
+    assert!(rt; leads_to(rt.alloc(), &tables, ("B", "b"), &[Some(a), None, Some(c)])?);
+    assert!(rt; tables.dependency_count() == 2);
+    remove(rt.alloc(), &mut tables, "A.a")?;
+    assert!(rt; leads_to(rt.alloc(), &tables, ("B", "b"), &[None, None, Some(c)])?);
+    tables.resolve_references()?;
+    assert!(rt; leads_to(rt.alloc(), &tables, ("B", "b"), &[None, None, Some(c)])?);
+    assert!(rt; tables.dependency_count() == 1);
     Ok(())
 }
 

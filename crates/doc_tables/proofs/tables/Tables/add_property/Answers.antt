@@ -1,4 +1,4 @@
-use Rattle.std.proofs.Common.{◌≡◌, ◌≢◌, ◌+◌, ℕ, List, Option, Some, length, map, refl, sym, ap, ◌∙◌, arith}
+use Rattle.std.proofs.Common.{◌≡◌, ◌≢◌, ◌+◌, ℕ, List, Option, None, Some, length, map, refl, sym, ap, ◌∙◌, arith}
 use Rattle.std.proofs.lemmas.Result.{MatchResult-from_err}
 use Rattle.property_types.specs.Types.{zero_value}
 use Rattle.document_model.specs.declared.content.Content.TheVariants.{Own}
@@ -22,13 +22,13 @@ put-requires-clause-within c = omega (arith, keys-within c.args.self.now c.self.
 
 pub invariant_of-self-in_err-push_property : goal.invariant_of-self-in_err-push_property
 invariant_of-self-in_err-push_property c =
-    kept-held c.args.self.now c.self.inside c.self.invariant c.self.view_is (record c.self.inside { objects = c.push_property.new.objects; slot_keys = c.reserve.new.self })
-    c.in_err-push_property.ensures.unchanged refl c.reserve.ensures.items refl refl refl
+    kept-held c.args.self.now c.self.inside c.self.invariant c.self.view_is (record c.self.inside { objects = c.push_property.new.objects; slot_keys = c.reserve.new.self; reached = None })
+    c.in_err-push_property.ensures.unchanged refl c.reserve.ensures.items refl refl refl tt
 
 pub returns-in_err-push_property-clause-unchanged : goal.returns-in_err-push_property-clause-unchanged
 returns-in_err-push_property-clause-unchanged c =
     MatchResult-from_err c.from_residual-in_err-push_property.result _ _ c.from_residual-in_err-push_property.ensures.0
-    (λ y. kept-view c.args.self.now c.self.inside c.self.invariant c.self.view_is (record c.self.inside { objects = c.push_property.new.objects; slot_keys = c.reserve.new.self })
+    (λ y. kept-view c.args.self.now c.self.inside c.self.invariant c.self.view_is (record c.self.inside { objects = c.push_property.new.objects; slot_keys = c.reserve.new.self; reached = None })
     c.in_err-push_property.ensures.unchanged refl c.reserve.ensures.items refl refl refl)
 
 pub invariant_of-self-2 : goal.invariant_of-self-2
@@ -44,11 +44,11 @@ invariant_of-self-2 c =
     in
     filled-held c.args.self.now c.self.inside c.self.invariant c.self.view_is c.args.object.0 c.in_ok-key.key.object c.in_ok-key.ensures.object c.unwrap-place.result
     (sym c.get_index_of.ensures.index ∙ c.unwrap-place.ensures) c.args.name c.requires.new_name
-    (record t { objects = c.push_property.new.objects; slot_keys = c.put.new.table; free_slot = n + 1 }) entry
+    (record t { objects = c.push_property.new.objects; slot_keys = c.put.new.table; free_slot = n + 1; reached = None }) entry
     (c.in_ok-push_property.ensures.added ∙ ap (λ (e : PropertyEntry). change_at (with_entry (c.args.name, e)) c.unwrap-place.result (map shown t.objects.entries)) c.in_ok-entry.ensures) c.requires.one_slot refl refl c.free_slot_number-slot.ensures.free here others
     c.free_slot_number-slot.ensures.used c.requires.few
     (omega (arith, keys-few c.args.self.now t c.self.invariant c.self.view_is, c.free_slot_number-slot.ensures.few, c.put.ensures.few 4294967295, ap length c.reserve.ensures.items)) refl refl
-    c.requires.name c.requires.added_type refl
+    c.requires.name c.requires.added_type refl tt
 
 pub returns-clause-added : goal.returns-clause-added
 returns-clause-added c =
@@ -63,5 +63,10 @@ returns-clause-added c =
     in
     filled-leads c.args.self.now c.self.inside c.self.invariant c.self.view_is c.args.object.0 c.in_ok-key.key.object c.in_ok-key.ensures.object c.unwrap-place.result
     (sym c.get_index_of.ensures.index ∙ c.unwrap-place.ensures) c.args.name c.requires.new_name
-    (record t { objects = c.push_property.new.objects; slot_keys = c.put.new.table; free_slot = n + 1 }) entry
+    (record t { objects = c.push_property.new.objects; slot_keys = c.put.new.table; free_slot = n + 1; reached = None }) entry
     (c.in_ok-push_property.ensures.added ∙ ap (λ (e : PropertyEntry). change_at (with_entry (c.args.name, e)) c.unwrap-place.result (map shown t.objects.entries)) c.in_ok-entry.ensures) c.requires.one_slot refl refl c.free_slot_number-slot.ensures.free here others
+
+pub invariant_of-self : goal.invariant_of-self
+invariant_of-self c =
+    kept-held c.args.self.now c.self.inside c.self.invariant c.self.view_is (record c.self.inside { slot_keys = c.reserve.new.self; reached = None })
+    refl refl c.reserve.ensures.items refl refl refl tt

@@ -20,5 +20,5 @@ loop-number-preserved c =
       count = omega (arith, c.in_ok-push.ensures.len, c.loop-number.invariant.count);
       each = λ n h.
           subst (λ (ls : List (List ℕ)). map (slot_at t) (list_at ls n) ≡ map Some (deps_at t n)) (sym grown)
-          (lists-more t (map seen old.items) one.items k count c.loop-number.invariant.each c.in_ok-dependencies_at.ensures n h);
+          (lists-more (λ (m : ℕ) (l : List ℕ). map (slot_at t) l ≡ map Some (deps_at t m)) (map seen old.items) one.items k count c.loop-number.invariant.each c.in_ok-dependencies_at.ensures n h);
     }

@@ -1,21 +1,15 @@
-use Rattle.std.proofs.Common.{List, Option, Some, subst, ap, ◌∙◌, map}
+use Rattle.std.proofs.Common.{List, Option, sym, subst, ◌∙◌}
 use Rattle.std.proofs.lemmas.Result.{IfOk-weaker}
-use Rattle.object_paths.specs.Slots.{Slot}
-use Rattle.document_model.specs.Slots.{rule_of_content}
-use Rattle.expr_tree.specs.ListedReferences.{reference_of}
-use Rattle.doc_tables.specs.Accessors.{AreReached}
-use Rattle.doc_tables.proofs.DependencyLemmas.{reached-listed}
+use Rattle.fc_base.specs.declared.ids.SlotId.{SlotId}
+use Rattle.doc_tables.specs.Accessors.{AreReached, reached_at}
+use Rattle.doc_tables.proofs.ReachedLemmas.{reached-known}
 use Rattle.doc_tables.proofs.tables.Tables.references_of.Goals as goal
 
-pub returns-in_ok-all-in-Bound : goal.returns-in_ok-all-in-Bound
-returns-in_ok-all-in-Bound c =
+pub returns-in-Some : goal.returns-in-Some
+returns-in-Some c =
     let v = c.args.self.now in
     let n = c.args.slot.0 in
-    let tree = c.in-Bound.tree in
-    IfOk-weaker c.slots_reached.result _ _
-    (λ found h. subst (λ (l : List (Option Slot)). AreReached v found.items l)
-    (reached-listed v n c.owner_of-owner.result.0 tree c.deref.result.now
-    (c.entry_of.ensures.rule ∙ ap Some (ap rule_of_content c.in-Bound.is))
-    c.entry_of.ensures.owner c.owner_of-owner.ensures
-    (ap (map reference_of) c.deref.ensures.value ∙ c.in_ok-all-in-Bound.ensures)) h)
-    c.slots_reached.ensures
+    IfOk-weaker c.copied.result _ _
+    (λ all e. subst (λ (ids : List (Option SlotId)). AreReached v ids (reached_at v n)) (sym (e ∙ c.reached_in.ensures))
+    (reached-known v c.self.inside c.self.invariant c.self.view_is c.in-Some.lists c.in-Some.is n c.requires))
+    c.copied.ensures

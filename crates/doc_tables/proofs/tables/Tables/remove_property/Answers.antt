@@ -1,4 +1,4 @@
-use Rattle.std.proofs.Common.{refl, sym, ◌∙◌, arith}
+use Rattle.std.proofs.Common.{None, refl, sym, ◌∙◌, arith}
 use Rattle.doc_tables.proofs.ChangeHeld.{object-there}
 use Rattle.doc_tables.proofs.HeldLemmas.{name-used, name-read}
 use Rattle.doc_tables.proofs.RemoveHeld.{entry-there, property-held, property-leads}
@@ -20,7 +20,7 @@ invariant_of-self c =
     property-held c.args.self.now c.self.inside c.self.invariant c.self.view_is c.args.object.0 c.thing_at-owner.result.now (name-read c.args.self.now c.self.inside c.self.invariant c.self.view_is c.args.object.0 c.thing_at-owner.result.now c.thing_at-owner.ensures)
     c.unwrap-place.result (sym c.get_index_of.ensures.index ∙ c.unwrap-place.ensures) c.args.name.now c.requires.there
     c.take_property-slot.result c.take_property-slot.ensures.slot
-    (record c.self.inside { objects = c.take_property-slot.new.objects; slot_keys = c.release.new.table; free_slot = c.lower-self-inside.result })
+    (record c.self.inside { objects = c.take_property-slot.new.objects; slot_keys = c.release.new.table; free_slot = c.lower-self-inside.result; reached = None }) tt
     c.take_property-slot.ensures.taken refl c.release.ensures.freed (omega (arith, c.release.ensures.len)) refl c.lower-self-inside.ensures refl
 
 pub returns-clause-removed : goal.returns-clause-removed
@@ -28,5 +28,5 @@ returns-clause-removed c =
     property-leads c.args.self.now c.self.inside c.self.invariant c.self.view_is c.args.object.0 c.thing_at-owner.result.now (name-read c.args.self.now c.self.inside c.self.invariant c.self.view_is c.args.object.0 c.thing_at-owner.result.now c.thing_at-owner.ensures)
     c.unwrap-place.result (sym c.get_index_of.ensures.index ∙ c.unwrap-place.ensures) c.args.name.now c.requires.there
     c.take_property-slot.result c.take_property-slot.ensures.slot
-    (record c.self.inside { objects = c.take_property-slot.new.objects; slot_keys = c.release.new.table; free_slot = c.lower-self-inside.result })
+    (record c.self.inside { objects = c.take_property-slot.new.objects; slot_keys = c.release.new.table; free_slot = c.lower-self-inside.result; reached = None }) tt
     c.take_property-slot.ensures.taken refl c.release.ensures.freed (omega (arith, c.release.ensures.len)) refl c.lower-self-inside.ensures refl

@@ -1,6 +1,6 @@
 use Rattle.std.proofs.Common.{◌≡◌, min, sum_by, take}
 use Rattle.doc_tables.specs.Counted.{dependencies_of_object}
-use Rattle.doc_tables.proofs.tables.Tables.dependency_count.Given as goal
+use Rattle.doc_tables.proofs.tables.Tables.resolved_count.Given as goal
 
 abbrev pub invariant-loop-place : goal.invariant-loop-place
 invariant-loop-place l =
