@@ -1,7 +1,12 @@
 //! Trees, printed forms and references of expressions, which the program shows in no run.
 
+ghost use Rattle.std.specs.Prelude.{IfOk, IsTrue, slice_get};
+ghost use Rattle.expr_tree.specs.References.{references};
+ghost use Rattle.expr_tree.specs.Renaming.{CanReplace};
+
 use expr_grammar::{
-    ExprCause, ExprFault, ParseFault, Reference, Renaming, map_paths, parse, print, references,
+    Expr, ExprCause, ExprFault, NewReference, ParseFault, Reference, Renaming, map_paths, parse,
+    print, references,
 };
 use std::alloc::{AllocError, Global};
 use std::test::Fail;
@@ -142,5 +147,96 @@ fn replaces_no_reference_that_is_not_listed(rt: HostRuntime) -> Result<(), Fail>
     };
     let same = map_paths(rt.alloc(), &tree, &renaming)?;
     assert!(rt; print(rt.alloc(), &same)?.as_str() == "a + sum(b; A1:B2)");
+    Ok(())
+}
+
+/// Whether the tree has a reference with that number, of the kind of what takes its place.
+fn can_replace(alloc: Global, tree: &Expr, new: &(u32, NewReference)) -> Result<bool, AllocError>
+    ensures { IfOk result (λ can. IsTrue can → CanReplace (slice_get (references tree.now) new.now.0) new.now.1) }
+{
+    let listed = references(alloc, tree)?;
+    Ok(match listed.get(new.0 as usize) {
+        Some(Reference::ToPath(_)) => matches!(&new.1, NewReference::ToPath(_)),
+        Some(Reference::ToArea(_)) => matches!(&new.1, NewReference::ToArea(_)),
+        None => false,
+    })
+}
+
+/// The tree with both references replaced, or nothing where it has no two such ones.
+fn with_replaced(
+    alloc: Global,
+    tree: &Expr,
+    first: (u32, NewReference),
+    second: (u32, NewReference),
+) -> Result<Option<Expr>, AllocError> {
+    if first.0 == second.0
+        || !can_replace(alloc, tree, &first)?
+        || !can_replace(alloc, tree, &second)?
+    {
+        return Ok(None);
+    }
+    let pairs = vec![in alloc; first, second]?;
+    Ok(Some(map_paths(alloc, tree, &Renaming { pairs })?))
+}
+
+/// The same path or area, to take the place of another.
+fn new_reference(alloc: Global, reference: &Reference) -> Result<NewReference, AllocError> {
+    match reference {
+        Reference::ToPath(path) => Ok(NewReference::ToPath(path.copy(alloc)?)),
+        Reference::ToArea(area) => Ok(NewReference::ToArea(**area)),
+    }
+}
+
+/// Whether a text is printed so, once both references of the new text take the places of those with
+/// these numbers.
+fn replaced_prints(
+    alloc: Global,
+    text: &str,
+    numbers: (u32, u32),
+    new: &str,
+    want: &str,
+) -> Result<bool, Fail> {
+    let tree = parse(alloc, text)?;
+    let new = parse(alloc, new)?;
+    let listed = references(alloc, &new)?;
+    if listed.len() != 2 {
+        return Ok(false);
+    }
+    let first = (numbers.0, new_reference(alloc, &listed[0])?);
+    let second = (numbers.1, new_reference(alloc, &listed[1])?);
+    match with_replaced(alloc, &tree, first, second)? {
+        Some(replaced) => Ok(print(alloc, &replaced)?.as_str() == want),
+        None => Ok(false),
+    }
+}
+
+/// Numbers of a path and of an area, what takes their places, and the printed form.
+static REPLACED: [((u32, u32), &str, &str); 3] = [
+    (
+        (1, 2),
+        "sum(<<My box>>.Width; $C$3:D4)",
+        "a + sum(<<My box>>.Width; $C$3:D4; c; A1:B2)",
+    ),
+    (
+        (0, 4),
+        "sum(.mm; ZZ1:ZZ1)",
+        ".mm + sum(Box.b; A1:B2; c; ZZ1:ZZ1)",
+    ),
+    (
+        (3, 2),
+        "sum(Box.Placement.Base.x; A1:B16384)",
+        "a + sum(Box.b; A1:B16384; Box.Placement.Base.x; A1:B2)",
+    ),
+];
+
+#[test]
+fn replaces_a_path_and_an_area(rt: HostRuntime) -> Result<(), Fail> {
+    let text = "a + sum(Box.b; A1:B2; c; A1:B2)";
+    for (numbers, new, want) in &REPLACED {
+        assert!(rt;
+            replaced_prints(rt.alloc(), text, *numbers, new, want)?,
+            "{want}"
+        );
+    }
     Ok(())
 }
