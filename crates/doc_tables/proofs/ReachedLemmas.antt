@@ -13,10 +13,11 @@ use Rattle.document_model.specs.Dependencies.{deps}
 use Rattle.document_model.specs.Slots.{slots}
 use Rattle.doc_tables.specs.declared.tables.Tables.TheInside.{Inside}
 use Rattle.doc_tables.specs.Accessors.{AreNumbersOf, AreReached, deps_at, reached_at}
+use Rattle.doc_tables.specs.DependencyLists.{list_at}
 use Rattle.doc_tables.specs.Entries.{numbers_in, present}
 use Rattle.doc_tables.specs.Held.{numbered_held, IsHeld}
 use Rattle.doc_tables.specs.Numbered.{Numbered, slot_at}
-use Rattle.doc_tables.specs.Reached.{AreAllReached, lists_of, reached_in, reached_of_objects_by, reached_of_properties_by}
+use Rattle.doc_tables.specs.Reached.{AreAllReached, lists_of, present_in_objects, present_in_properties}
 use Rattle.doc_tables.proofs.CountLemmas.{sum_by-flat_map, sum_by-map, sum_by-same}
 use Rattle.doc_tables.proofs.DependencyLemmas.{deps-read}
 use Rattle.doc_tables.proofs.HeldLemmas.{Named, Owned, numbers-held}
@@ -57,19 +58,19 @@ module _ (v : Numbered) (t : Inside) (held : IsHeld t) (is : numbered_held t ≡
       subst (λ (w : Numbered). AreAllReached w (lists_of lists.items)) is
       (subst (λ (x : Option (Vec (Vec (Option SlotId) Global) Global)). IfSome x (λ ls. AreAllReached (numbered_held t) (lists_of ls.items))) known held.reached)
 
-  counted-at : (n : ℕ) (s : Slot) → slot_at v n ≡ Some s → count_by is_some (reached_in (lists_of lists.items) n) ≡ length (deps v.document s)
+  counted-at : (n : ℕ) (s : Slot) → slot_at v n ≡ Some s → count_by is_some (list_at (lists_of lists.items) n) ≡ length (deps v.document s)
   counted-at n s here =
       let used : IsSome (slot_at v n) = ap is_some here in
-      counted-present (reached_in (lists_of lists.items) n)
-      ∙ length-numbers v (present (reached_in (lists_of lists.items) n)) (deps_at v n) (deps-read v t held is n used (reached_in (lists_of lists.items) n) (reached-known n used))
+      counted-present (list_at (lists_of lists.items) n)
+      ∙ length-numbers v (present (list_at (lists_of lists.items) n)) (deps_at v n) (deps-read v t held is n used (list_at (lists_of lists.items) n) (reached-known n used))
       ∙ ap (λ (x : Option Slot). length (option_map_or (deps v.document) x [])) here
 
   -- and as many of them lead to a slot as there are dependencies
-  pub reached-counted : reached_of_objects_by (lists_of lists.items) t.objects.entries ≡ dependencies_of_document v.document
+  pub reached-counted : present_in_objects (lists_of lists.items) t.objects.entries ≡ dependencies_of_document v.document
   reached-counted =
-      let count : SlotId → ℕ = λ id. count_by is_some (reached_in (lists_of lists.items) id.0) in
-      sum_by-same (λ (o : Owned). reached_of_properties_by (lists_of lists.items) o.1.properties.entries) (λ (o : Owned). sum_by count (numbers_in o)) t.objects.entries
+      let count : SlotId → ℕ = λ id. count_by is_some (list_at (lists_of lists.items) id.0) in
+      sum_by-same (λ (o : Owned). present_in_properties (lists_of lists.items) o.1.properties.entries) (λ (o : Owned). sum_by count (numbers_in o)) t.objects.entries
       (λ o. sym (sum_by-map count (λ (e : Named). e.1.slot) o.1.properties.entries))
       ∙ sym (sum_by-flat_map count numbers_in t.objects.entries)
-      ∙ sums-numbered v (λ n. count_by is_some (reached_in (lists_of lists.items) n)) (λ s. length (deps v.document s)) counted-at
+      ∙ sums-numbered v (λ n. count_by is_some (list_at (lists_of lists.items) n)) (λ s. length (deps v.document s)) counted-at
       (flat_map numbers_in t.objects.entries) (slots v.document) (numbers-held v t held is)

@@ -4,7 +4,7 @@ use Rattle.doc_tables.specs.Accessors.{deps_at}
 use Rattle.doc_tables.specs.Numbered.{Numbered, slot_at}
 
 -- the list of a number, empty past the last
-abbrev pub list_at : List (List ℕ) → ℕ → List ℕ
+abbrev pub list_at : {A : Type 0} → List (List A) → ℕ → List A
 list_at lists n = unwrap_or (slice_get lists n) []
 
 -- Each number has the list of the numbers of the slots on which its slot depends.

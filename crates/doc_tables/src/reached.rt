@@ -3,9 +3,10 @@
 ghost use Rattle.std.specs.Prelude.{◌≡◌, count_by, is_some, min, map, IfOk, IsSome};
 ghost use Rattle.expr_tree.specs.ListedReferences.{reference_of};
 ghost use Rattle.doc_tables.specs.Accessors.{AreReached, IsNumberOf, reached_at};
+ghost use Rattle.doc_tables.specs.DependencyLists.{list_at};
 ghost use Rattle.doc_tables.specs.Entries.{reached_by};
 ghost use Rattle.doc_tables.specs.Numbered.{name_at, slot_at};
-ghost use Rattle.doc_tables.specs.Reached.{AreAllReached, lists_of, reached_in, reached_of_objects_by, reached_of_properties_by};
+ghost use Rattle.doc_tables.specs.Reached.{AreAllReached, lists_of, present_in_objects, present_in_properties};
 
 use crate::entry::{ObjectEntry, PropertyEntry};
 use crate::tables::Tables;
@@ -16,8 +17,8 @@ use indexmap::IndexMap;
 use std::alloc::{AllocError, Global};
 
 /// What stands for a number; nothing past the last.
-fn reached_in(lists: &Vec<Vec<Option<SlotId>>>, number: u32) -> &[Option<SlotId>]
-    ensures { result.now ≡ reached_in (lists_of lists.now.items) number }
+fn list_at(lists: &Vec<Vec<Option<SlotId>>>, number: u32) -> &[Option<SlotId>]
+    ensures { result.now ≡ list_at (lists_of lists.now.items) number }
 {
     match lists.get(number as usize) {
         Some(list) => list.as_slice(),
@@ -40,29 +41,29 @@ fn present_count(list: &[Option<SlotId>]) -> u64
 }
 
 /// How many references of properties lead to a slot, at most `u64::MAX`.
-fn reached_of_properties(
+fn present_in_properties(
     properties: &IndexMap<Name, PropertyEntry>,
     lists: &Vec<Vec<Option<SlotId>>>,
 ) -> u64
-    ensures { result ≡ min (reached_of_properties_by (lists_of lists.now.items) properties.now.entries) u64.MAX }
+    ensures { result ≡ min (present_in_properties (lists_of lists.now.items) properties.now.entries) u64.MAX }
 {
     let mut count: u64 = 0;
     for (_, entry) in properties {
-        count = count.saturating_add(present_count(reached_in(lists, entry.slot.0)));
+        count = count.saturating_add(present_count(list_at(lists, entry.slot.0)));
     }
     count
 }
 
 /// How many references of objects lead to a slot, at most `u64::MAX`.
-pub(crate) fn reached_of_objects(
+pub(crate) fn present_in_objects(
     objects: &IndexMap<Name, ObjectEntry>,
     lists: &Vec<Vec<Option<SlotId>>>,
 ) -> u64
-    ensures { result ≡ min (reached_of_objects_by (lists_of lists.now.items) objects.now.entries) u64.MAX }
+    ensures { result ≡ min (present_in_objects (lists_of lists.now.items) objects.now.entries) u64.MAX }
 {
     let mut count: u64 = 0;
     for (_, object) in objects {
-        count = count.saturating_add(reached_of_properties(&object.properties, lists));
+        count = count.saturating_add(present_in_properties(&object.properties, lists));
     }
     count
 }
@@ -158,7 +159,7 @@ impl Tables {
         ensures { IfOk result (λ v. AreReached self.now v.items (reached_at self.now slot.0)) }
     {
         match &self.reached {
-            Some(lists) => copied(alloc, reached_in(lists, slot.0)),
+            Some(lists) => copied(alloc, list_at(lists, slot.0)),
             None => self.resolved_of(alloc, slot),
         }
     }

@@ -6,3 +6,4 @@ pub mod RepliesLemmas
 pub mod ScriptLemmas
 pub mod SessionLemmas
 pub mod SpellingLemmas
+pub mod OpenLemmas

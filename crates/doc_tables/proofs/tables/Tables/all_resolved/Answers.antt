@@ -3,7 +3,8 @@ use Rattle.std.proofs.lemmas.List.{map-append, length-map}
 use Rattle.fc_base.specs.declared.ids.SlotId.{SlotId}
 use Rattle.doc_tables.specs.Accessors.{AreReached, reached_at}
 use Rattle.doc_tables.specs.Numbered.{slot_at}
-use Rattle.doc_tables.specs.Reached.{lists_of, reached_in}
+use Rattle.doc_tables.specs.DependencyLists.{list_at}
+use Rattle.doc_tables.specs.Reached.{lists_of}
 use Rattle.doc_tables.proofs.ListLemmas.{lists-more}
 use Rattle.doc_tables.proofs.ReachedLemmas.{used-below}
 use Rattle.doc_tables.proofs.tables.Tables.all_resolved.Goals as goal
@@ -20,7 +21,7 @@ loop-number-preserved c =
     record {
       count = omega (arith, c.in_ok-push.ensures.len, c.loop-number.invariant.count);
       each = λ n h.
-          subst (λ (ls : List (List (Option SlotId))). IsSome (slot_at t n) → AreReached t (reached_in ls n) (reached_at t n)) (sym grown)
+          subst (λ (ls : List (List (Option SlotId))). IsSome (slot_at t n) → AreReached t (list_at ls n) (reached_at t n)) (sym grown)
           (lists-more (λ (m : ℕ) (l : List (Option SlotId)). IsSome (slot_at t m) → AreReached t l (reached_at t m)) (lists_of old.items) one.items k count c.loop-number.invariant.each c.in_ok-resolved_at.ensures n h);
     }
 

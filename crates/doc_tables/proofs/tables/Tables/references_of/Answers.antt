@@ -10,6 +10,6 @@ returns-in-Some c =
     let v = c.args.self.now in
     let n = c.args.slot.0 in
     IfOk-weaker c.copied.result _ _
-    (λ all e. subst (λ (ids : List (Option SlotId)). AreReached v ids (reached_at v n)) (sym (e ∙ c.reached_in.ensures))
+    (λ all e. subst (λ (ids : List (Option SlotId)). AreReached v ids (reached_at v n)) (sym (e ∙ c.list_at.ensures))
     (reached-known v c.self.inside c.self.invariant c.self.view_is c.in-Some.lists c.in-Some.is n c.requires))
     c.copied.ensures
