@@ -34,7 +34,8 @@ fn check_within_limits(alloc: Global, tables: &Tables, listed: &[SlotId]) -> Res
 /// (OutOfRange, 10); of each kind the first in the document.
 ///
 /// It grows with the slots, nodes and dependencies of the document, and little faster than its
-/// objects, each of whose labels is searched for.
+/// objects, each of whose labels is searched for. Where `resolve_references` was not called, each
+/// reference is resolved four times.
 pub fn check(alloc: Global, tables: &Tables) -> Result<(), CheckFault>
     ensures { MeetsFault (first_fault tables.now.document) result }
 {

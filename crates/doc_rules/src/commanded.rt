@@ -16,7 +16,7 @@ fn object_commanded(tables: &Tables, owner: &Owner) -> Option<ObjectId>
 {
     match owner {
         Owner::Here => None,
-        Owner::ByName(name) => tables.object_of(name),
+        Owner::ByName(name) => tables.object_by_name(name),
         Owner::ByLabel(label) => tables.object_labelled(label.as_str()),
     }
 }

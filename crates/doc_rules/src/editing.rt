@@ -61,11 +61,11 @@ fn with_content(
 {
     let mut edited = tables.copy(alloc)?;
     edited.set_rule(slot, content)?;
-    edited.resolve_references()?;
     Ok(edited)
 }
 
-/// A copy of the tables with another content in a slot, unless the document has a fault then.
+/// A copy of the tables with another content in a slot, unless the document has a fault then. Its
+/// references are resolved once, before it is checked.
 fn accepted(
     alloc: Global,
     tables: &Tables,
@@ -78,7 +78,8 @@ fn accepted(
     ensures { (s : Slot) → slot_at tables.now slot.0 ≡ Some s
         → Becomes tables.now (accepted (with_content tables.now.document s content)) result }
 {
-    let edited = with_content(alloc, tables, slot, content)?;
+    let mut edited = with_content(alloc, tables, slot, content)?;
+    edited.resolve_references()?;
     match check(alloc, &edited) {
         Ok(()) => Ok(edited),
         Err(CheckFault::Doc(fault)) => Err(refused_by(alloc, &fault)),

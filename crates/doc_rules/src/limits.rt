@@ -28,7 +28,8 @@ fn has_too_many(tables: &Tables) -> bool
     objects || slots || nodes || dependencies
 }
 
-/// Whether the expression of a slot is too large; it is not where there is none.
+/// Whether the expression of a slot is too large; it is not where there is none. It is copied and
+/// printed for this.
 fn has_large_tree(alloc: Global, tables: &Tables, slot: SlotId) -> Result<bool, AllocError>
     requires { IsSome (slot_at tables.now slot.0) }
     ensures { IfOk result (λ large. large ≡ option_map_or is_too_large (tree_at tables.now slot.0) false) }

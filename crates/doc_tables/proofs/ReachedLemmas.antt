@@ -5,7 +5,6 @@ use Rattle.std.specs.Option.{option_and_then, option_map_or}
 use Rattle.std.proofs.lemmas.Bool.{false≢true}
 use Rattle.std.proofs.lemmas.List.{length-map}
 use Rattle.std.proofs.lemmas.List.Sums.{sum_by-cons}
-use Rattle.std.proofs.lemmas.Option.{slice_get_within}
 use Rattle.fc_base.specs.declared.ids.SlotId.{SlotId}
 use Rattle.object_paths.specs.Slots.{Slot}
 use Rattle.document_model.specs.Counts.{dependencies_of_document}
@@ -17,18 +16,19 @@ use Rattle.doc_tables.specs.DependencyLists.{list_at}
 use Rattle.doc_tables.specs.Entries.{numbers_in, present}
 use Rattle.doc_tables.specs.Held.{numbered_held, IsHeld}
 use Rattle.doc_tables.specs.Numbered.{Numbered, slot_at}
-use Rattle.doc_tables.specs.Reached.{AreAllReached, lists_of, present_in_objects, present_in_properties}
+use Rattle.doc_tables.specs.Reached.{AreAllReached, lists_of, dependencies_in_objects, dependencies_in_properties}
 use Rattle.doc_tables.proofs.CountLemmas.{sum_by-flat_map, sum_by-map, sum_by-same}
 use Rattle.doc_tables.proofs.DependencyLemmas.{deps-read}
 use Rattle.doc_tables.proofs.HeldLemmas.{Named, Owned, numbers-held}
+use Rattle.doc_tables.proofs.NumberLemmas.{at_number-within}
 
 -- a number in use is one of the list
 pub used-below : (t : Numbered) (n : ℕ) → IsSome (slot_at t n) → n < length t.slots
-used-below t n used = of (slice_get t.slots n) refl used
+used-below t n used = of (slot_at t n) refl used
   where
-    of : (x : Option (Option Slot)) → slice_get t.slots n ≡ x → IsSome (option_and_then (λ y. y) x) → n < length t.slots
+    of : (x : Option Slot) → slot_at t n ≡ x → IsSome x → n < length t.slots
     of None is h = absurd (false≢true h)
-    of (Some y) is h = slice_get_within t.slots n y is
+    of (Some s) is h = at_number-within t.slots n s is
 
 -- those that are there are as many as are counted
 counted-present : {A : Type 0} (all : List (Option A)) → count_by is_some all ≡ length (present all)
@@ -66,10 +66,10 @@ module _ (v : Numbered) (t : Inside) (held : IsHeld t) (is : numbered_held t ≡
       ∙ ap (λ (x : Option Slot). length (option_map_or (deps v.document) x [])) here
 
   -- and as many of them lead to a slot as there are dependencies
-  pub reached-counted : present_in_objects (lists_of lists.items) t.objects.entries ≡ dependencies_of_document v.document
+  pub reached-counted : dependencies_in_objects (lists_of lists.items) t.objects.entries ≡ dependencies_of_document v.document
   reached-counted =
       let count : SlotId → ℕ = λ id. count_by is_some (list_at (lists_of lists.items) id.0) in
-      sum_by-same (λ (o : Owned). present_in_properties (lists_of lists.items) o.1.properties.entries) (λ (o : Owned). sum_by count (numbers_in o)) t.objects.entries
+      sum_by-same (λ (o : Owned). dependencies_in_properties (lists_of lists.items) o.1.properties.entries) (λ (o : Owned). sum_by count (numbers_in o)) t.objects.entries
       (λ o. sym (sum_by-map count (λ (e : Named). e.1.slot) o.1.properties.entries))
       ∙ sym (sum_by-flat_map count numbers_in t.objects.entries)
       ∙ sums-numbered v (λ n. count_by is_some (list_at (lists_of lists.items) n)) (λ s. length (deps v.document s)) counted-at

@@ -78,7 +78,7 @@ AreReached t ids slots = map (option_map (λ (id : SlotId). slot_at t id.0)) ids
 abbrev pub outside_path : Slot → List ℕ
 outside_path s = path_text (record { owner = ByName s.object; slot = s.name })
 
--- two trees that are one once the same path stands for each path, and the same area for each area
+-- the two are equal once one path replaces every path and one area every area: they differ in paths and areas alone
 abbrev pub IsShapeOf : Tree → Tree → Type 0
 IsShapeOf written shape =
     (p : Path) (area : Block) → with_references (λ _. p) (λ _. area) shape ≡ with_references (λ _. p) (λ _. area) written

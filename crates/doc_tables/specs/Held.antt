@@ -73,7 +73,7 @@ numbered_held t = record {
   slots = slots_of_keys t.slot_keys.items;
 }
 
--- what references lead to is what they name, where it was worked out
+-- where references were resolved, what is kept of them is right for each slot in use
 abbrev pub HoldsReached : Inside → Type 0
 HoldsReached t = IfSome t.reached (λ lists. AreAllReached (numbered_held t) (lists_of lists.items))
 
@@ -87,7 +87,8 @@ pub record IsObjectHeld (o : List ℕ × ObjectEntry) : Type 0 where
   pub distinct : IsUnique (pointwise nat_eq) o.1.properties
   pub properties : AllByRecursion IsPropertyHeld o.1.properties.entries
 
--- Objects have distinct names, the numbers in use are those of the entries, and the document is one of the product.
+-- Objects have distinct names, the numbers in use are those of the entries, the document is one of the product,
+-- and what is kept of references is right.
 pub record IsHeld (t : Inside) : Type 0 where
   pub distinct : IsUnique (pointwise nat_eq) t.objects
   pub objects : AllByRecursion IsObjectHeld t.objects.entries

@@ -17,9 +17,9 @@ abbrev pub lists_of : {A X : Type 0} → List (Vec A X) → List (List A)
 lists_of {A} {X} vectors = map (λ (v : Vec A X). v.items) vectors
 
 -- how many of the references of these properties lead to a slot
-abbrev pub present_in_properties : List (List (Option SlotId)) → List (List ℕ × PropertyEntry) → ℕ
-present_in_properties lists properties = sum_by (λ (e : List ℕ × PropertyEntry). count_by is_some (list_at lists e.1.slot.0)) properties
+abbrev pub dependencies_in_properties : List (List (Option SlotId)) → List (List ℕ × PropertyEntry) → ℕ
+dependencies_in_properties lists properties = sum_by (λ (e : List ℕ × PropertyEntry). count_by is_some (list_at lists e.1.slot.0)) properties
 
 -- and of those of these objects
-abbrev pub present_in_objects : List (List (Option SlotId)) → List (List ℕ × ObjectEntry) → ℕ
-present_in_objects lists objects = sum_by (λ (o : List ℕ × ObjectEntry). present_in_properties lists o.1.properties.entries) objects
+abbrev pub dependencies_in_objects : List (List (Option SlotId)) → List (List ℕ × ObjectEntry) → ℕ
+dependencies_in_objects lists objects = sum_by (λ (o : List ℕ × ObjectEntry). dependencies_in_properties lists o.1.properties.entries) objects

@@ -7,7 +7,7 @@ ghost use Rattle.doc_tables.specs.Counted.{dependencies_of_object, nodes_of_cont
 ghost use Rattle.doc_tables.specs.Numbered.{name_at};
 
 use crate::entry::{ObjectEntry, PropertyEntry};
-use crate::reached::present_in_objects;
+use crate::reached::dependencies_in_objects;
 use crate::tables::Tables;
 use document_model::Content;
 use expr_tree::{Argument, Expr, Node};
@@ -177,7 +177,7 @@ impl Tables {
         ensures { result ≡ min (dependencies_of_document self.now.document) u64.MAX }
     {
         match &self.reached {
-            Some(lists) => present_in_objects(&self.objects, lists),
+            Some(lists) => dependencies_in_objects(&self.objects, lists),
             None => self.resolved_count(),
         }
     }

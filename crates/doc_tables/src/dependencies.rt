@@ -23,7 +23,8 @@ fn numbers(alloc: Global, slots: &[SlotId]) -> Result<Vec<u32>, AllocError>
 }
 
 impl Tables {
-    /// The slots on which a slot depends, in their order; one that is named again stands again.
+    /// The slots on which a slot depends, in their order; one that is named again stands again. It costs
+    /// as much as `references_of`.
     pub fn deps_of(&self, alloc: Global, slot: SlotId) -> Result<Vec<SlotId>, AllocError>
         requires { IsSome (slot_at self.now slot.0) }
         ensures { IfOk result (λ v. AreNumbersOf self.now v.items (deps_at self.now slot.0)) }

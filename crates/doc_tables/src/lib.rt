@@ -1,13 +1,12 @@
 //! A document as tables: objects and properties by name, slots by number.
 //!
-//! `Tables` holds a document of VarSets. It answers by name (`object_of`, `resolve`), by label
-//! (`object_labelled`), by place (`object_at`, `slot_at`) and by number (`own_value`, `shape_of`,
-//! `references_of`, `deps_of`, `dependency_lists`), and is changed by five primitives (`add_object`,
-//! `add_property`, `set_rule`, `remove_property`, `remove_object`). `resolve_references` works out at once
-//! what all references lead to. Numbers of objects and slots stay as long as what
-//! they name, and are free then. `is_property_name` tells which names a property may be added under,
-//! `limits` how large a document may be. What a document means, and which documents are refused, is not
-//! known here.
+//! `Tables` holds a document of VarSets. It answers by name (`object_by_name`, `resolve`), by label
+//! (`object_labelled`), by place (`object_at`, `slot_at`) and by number (`own_value`, `bound_of`,
+//! `shape_of`, `references_of`, `deps_of`, `dependency_lists`), and is changed by five primitives
+//! (`add_object`, `add_property`, `set_rule`, `remove_property`, `remove_object`). `resolve_references`
+//! resolves all references at once. Numbers of objects and slots stay as long as what they name, and are
+//! free then. `is_property_name` tells which names a property may be added under, `limits` how large a
+//! document may be. What a document means, and which documents are refused, is not known here.
 //!
 //! `docs/definitions.md` tells of `Numbered`, as which tables are seen. Rows are tried in
 //! `worked_documents/src/answers.rt`.

@@ -121,14 +121,14 @@ impl Tables {
     }
 
     /// The object of that name; none exactly where there is none. It is found by one look-up.
-    pub fn object_of(&self, name: &Name) -> Option<ObjectId>
+    pub fn object_by_name(&self, name: &Name) -> Option<ObjectId>
         ensures { IsNumberOfObject self.now result (object_named self.now.document name.now) }
     {
         number_of(self.objects.get(name))
     }
 
     /// The first object of that name; none exactly where there is none. The objects are looked through
-    /// from the first; for a `Name` there is `object_of`.
+    /// from the first; for a `Name` there is `object_by_name`.
     pub fn object_named(&self, name: &str) -> Option<ObjectId>
         ensures { IsNumberOfObject self.now result (object_named self.now.document name.now) }
     {

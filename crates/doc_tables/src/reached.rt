@@ -1,12 +1,12 @@
-//! What the references of expressions lead to, worked out for all slots at once. An edit that may change it
-//! drops it; until it is worked out again each reference is resolved when it is asked for.
+//! What the references of expressions lead to, worked out for all slots in one pass. Each primitive drops
+//! it; until it is worked out again a reference is resolved when it is asked for.
 ghost use Rattle.std.specs.Prelude.{◌≡◌, count_by, is_some, min, map, IfOk, IsSome};
 ghost use Rattle.expr_tree.specs.ListedReferences.{reference_of};
 ghost use Rattle.doc_tables.specs.Accessors.{AreReached, IsNumberOf, reached_at};
 ghost use Rattle.doc_tables.specs.DependencyLists.{list_at};
 ghost use Rattle.doc_tables.specs.Entries.{reached_by};
 ghost use Rattle.doc_tables.specs.Numbered.{name_at, slot_at};
-ghost use Rattle.doc_tables.specs.Reached.{AreAllReached, lists_of, present_in_objects, present_in_properties};
+ghost use Rattle.doc_tables.specs.Reached.{AreAllReached, lists_of, dependencies_in_objects, dependencies_in_properties};
 
 use crate::entry::{ObjectEntry, PropertyEntry};
 use crate::tables::Tables;
@@ -16,7 +16,7 @@ use fc_base::{Name, ObjectId, SlotId};
 use indexmap::IndexMap;
 use std::alloc::{AllocError, Global};
 
-/// What stands for a number; nothing past the last.
+/// The list of a number; empty past the last.
 fn list_at(lists: &Vec<Vec<Option<SlotId>>>, number: u32) -> &[Option<SlotId>]
     ensures { result.now ≡ list_at (lists_of lists.now.items) number }
 {
@@ -27,7 +27,10 @@ fn list_at(lists: &Vec<Vec<Option<SlotId>>>, number: u32) -> &[Option<SlotId>]
 }
 
 /// An equal list.
-fn copied(alloc: Global, list: &[Option<SlotId>]) -> Result<Vec<Option<SlotId>>, AllocError>
+fn copy_references(
+    alloc: Global,
+    list: &[Option<SlotId>],
+) -> Result<Vec<Option<SlotId>>, AllocError>
     ensures { IfOk result (λ v. v.items ≡ list.now) }
 {
     list.iter().copied().collect(alloc)
@@ -41,11 +44,11 @@ fn present_count(list: &[Option<SlotId>]) -> u64
 }
 
 /// How many references of properties lead to a slot, at most `u64::MAX`.
-fn present_in_properties(
+fn dependencies_in_properties(
     properties: &IndexMap<Name, PropertyEntry>,
     lists: &Vec<Vec<Option<SlotId>>>,
 ) -> u64
-    ensures { result ≡ min (present_in_properties (lists_of lists.now.items) properties.now.entries) u64.MAX }
+    ensures { result ≡ min (dependencies_in_properties (lists_of lists.now.items) properties.now.entries) u64.MAX }
 {
     let mut count: u64 = 0;
     for (_, entry) in properties {
@@ -55,15 +58,15 @@ fn present_in_properties(
 }
 
 /// How many references of objects lead to a slot, at most `u64::MAX`.
-pub(crate) fn present_in_objects(
+pub(crate) fn dependencies_in_objects(
     objects: &IndexMap<Name, ObjectEntry>,
     lists: &Vec<Vec<Option<SlotId>>>,
 ) -> u64
-    ensures { result ≡ min (present_in_objects (lists_of lists.now.items) objects.now.entries) u64.MAX }
+    ensures { result ≡ min (dependencies_in_objects (lists_of lists.now.items) objects.now.entries) u64.MAX }
 {
     let mut count: u64 = 0;
     for (_, object) in objects {
-        count = count.saturating_add(present_in_properties(&object.properties, lists));
+        count = count.saturating_add(dependencies_in_properties(&object.properties, lists));
     }
     count
 }
@@ -124,7 +127,7 @@ impl Tables {
         }
     }
 
-    /// The same of all numbers.
+    /// By numbers, what the references of all expressions name, each resolved.
     fn all_resolved(&self, alloc: Global) -> Result<Vec<Vec<Option<SlotId>>>, AllocError>
         ensures { IfOk result (λ v. AreAllReached self.now (lists_of v.items)) }
     {
@@ -135,8 +138,8 @@ impl Tables {
         Ok(lists)
     }
 
-    /// Works out what the references of all expressions lead to, unless that is known. It changes nothing that
-    /// can be asked for; references are not resolved again until the tables are changed.
+    /// Resolves each reference of the document once and keeps what they lead to, unless that is kept.
+    /// Nothing that can be asked for changes. Until the next change, asking for references resolves none.
     pub fn resolve_references(&mut self) -> Result<(), AllocError>
         ensures { self.new ≡ self.old }
     {
@@ -149,7 +152,8 @@ impl Tables {
 
     /// What the paths of a slot's expression name, from the left: the number of a slot each, or none
     /// where a path names no slot, and for an area. There are none where the rule is no expression.
-    /// After `resolve_references` none is resolved again.
+    /// The list is copied. Unless `resolve_references` was called since the last change, each reference
+    /// is resolved for it.
     pub fn references_of(
         &self,
         alloc: Global,
@@ -159,7 +163,7 @@ impl Tables {
         ensures { IfOk result (λ v. AreReached self.now v.items (reached_at self.now slot.0)) }
     {
         match &self.reached {
-            Some(lists) => copied(alloc, list_at(lists, slot.0)),
+            Some(lists) => copy_references(alloc, list_at(lists, slot.0)),
             None => self.resolved_of(alloc, slot),
         }
     }

@@ -60,7 +60,7 @@ impl Tables {
         let slot = take_property(&mut self.objects, place, name);
         release(&mut self.slot_keys, slot.0);
         self.free_slot = lower(self.free_slot, slot.0);
-        self.reached = None; // its name led to it
+        self.reached = None; // paths may name this slot
         Ok(())
     }
 
@@ -78,7 +78,7 @@ impl Tables {
         release(&mut self.object_names, object.0);
         self.free_object = lower(self.free_object, object.0);
         take_number(&mut self.by_label, object);
-        self.reached = None; // names and its label led to its slots
+        self.reached = None; // paths may name its slots, by its name or label
         Ok(())
     }
 }

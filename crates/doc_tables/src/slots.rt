@@ -142,7 +142,8 @@ impl Tables {
         }
     }
 
-    /// A copy of the expression of a slot as it is written; none exactly where its rule is another.
+    /// A copy of the expression of a slot as it is written; none exactly where its rule is another. The
+    /// cost grows with its nodes.
     pub fn bound_of(&self, alloc: Global, slot: SlotId) -> Result<Option<Expr>, AllocError>
         requires { IsSome (slot_at self.now slot.0) }
         ensures { IfOk result (λ e. e ≡ tree_at self.now slot.0) }

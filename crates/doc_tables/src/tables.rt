@@ -32,8 +32,8 @@ pub struct Tables {
     pub(crate) free_object: usize,
     /// No number of a slot below is free.
     pub(crate) free_slot: usize,
-    /// By the numbers of slots, what the references of their expressions lead to. None where an edit may
-    /// have changed that since it was worked out.
+    /// What the references of each slot's expression lead to, by the slot's number. None until
+    /// `resolve_references` works it out, and again after each primitive, also one that finds no memory.
     pub(crate) reached: Option<Vec<Vec<Option<SlotId>>>>,
 }
 

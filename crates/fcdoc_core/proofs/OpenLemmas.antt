@@ -10,8 +10,8 @@ use Rattle.fcdoc_core.specs.declared.open_fault.OpenFault.TheVariants as opening
 use Rattle.doc_rules.specs.Found.{MeetsFault}
 use Rattle.doc_rules.specs.Refusals.{is_refusal_number}
 
-abbrev pub OpenRefused : {A : Type 0} → DocFault → Result A OpenFault
-OpenRefused fault = Err (opening.Doc fault)
+abbrev pub refused_open : {A : Type 0} → DocFault → Result A OpenFault
+refused_open fault = Err (opening.Doc fault)
 
 pub fault-named : ((d : Document) (f : Fault) → first_fault d ≡ Some f → IsTrue (is_refusal_number f.number))
     → (d : Document) (checked : Result (Unit {0}) CheckFault) (told : DocFault) → MeetsFault (first_fault d) checked → checked ≡ Err (Doc told) → IsTrue (is_refusal_number told.number)
@@ -22,5 +22,5 @@ fault-named law d checked told meets is = of (first_fault d) refl (subst (MeetsF
     of (Some f) e h = subst (λ n. IsTrue (is_refusal_number n)) h.number (law d f e)
 
 -- one fault told is the other
-pub told-once : {A : Type 0} (a b : DocFault) → OpenRefused {A = A} a ≡ OpenRefused b → a ≡ b
+pub told-once : {A : Type 0} (a b : DocFault) → refused_open {A = A} a ≡ refused_open b → a ≡ b
 told-once a b h = cc

@@ -1,10 +1,9 @@
-use Rattle.std.proofs.Common.{ap, subst, sym, ◌∙◌}
+use Rattle.std.proofs.Common.{ap, subst, ◌∙◌}
 use Rattle.document_model.specs.Edited.{with_content}
 use Rattle.doc_tables.specs.Numbered.{Numbered, LeadsTo, slot_at}
 use Rattle.doc_rules.proofs.editing.with_content.Goals as goal
 
 pub returns : goal.returns
 returns c = λ s at.
-    subst (λ (t : Numbered). LeadsTo c.args.tables.now t (with_content c.args.tables.now.document s c.args.content)) (sym c.resolve_references.ensures)
-    (subst (λ (t : Numbered). LeadsTo t c.set_rule.new.self (with_content t.document s c.args.content)) c.in_ok-edited.ensures
-    (c.in_ok-set_rule.ensures.set s (ap (λ (t : Numbered). slot_at t c.args.slot.0) c.in_ok-edited.ensures ∙ at)))
+    subst (λ (t : Numbered). LeadsTo t c.set_rule.new.self (with_content t.document s c.args.content)) c.in_ok-edited.ensures
+    (c.in_ok-set_rule.ensures.set s (ap (λ (t : Numbered). slot_at t c.args.slot.0) c.in_ok-edited.ensures ∙ at))

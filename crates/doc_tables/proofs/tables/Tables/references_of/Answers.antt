@@ -9,7 +9,7 @@ pub returns-in-Some : goal.returns-in-Some
 returns-in-Some c =
     let v = c.args.self.now in
     let n = c.args.slot.0 in
-    IfOk-weaker c.copied.result _ _
+    IfOk-weaker c.copy_references.result _ _
     (λ all e. subst (λ (ids : List (Option SlotId)). AreReached v ids (reached_at v n)) (sym (e ∙ c.list_at.ensures))
     (reached-known v c.self.inside c.self.invariant c.self.view_is c.in-Some.lists c.in-Some.is n c.requires))
-    c.copied.ensures
+    c.copy_references.ensures

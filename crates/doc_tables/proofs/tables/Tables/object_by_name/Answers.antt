@@ -1,6 +1,6 @@
 use Rattle.std.specs.Option.{option_copied}
 use Rattle.doc_tables.proofs.PlaceLemmas.{looked-number}
-use Rattle.doc_tables.proofs.tables.Tables.object_of.Goals as goal
+use Rattle.doc_tables.proofs.tables.Tables.object_by_name.Goals as goal
 
 pub returns : goal.returns
 returns c =
