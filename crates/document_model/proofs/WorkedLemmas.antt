@@ -1,6 +1,9 @@
 -- The worked forms and texts hold by computation.
-use Rattle.std.proofs.Common.{refl, [], ◌∷◌}
+use Rattle.std.proofs.Common.{◌≡◌, ℕ, true, ◌==◌, List, [], ◌∷◌, ◌++◌, refl, sym, ◌∙◌, ap, subst}
 use Rattle.std.specs.Prelude.{codes}
+use Rattle.std.specs.List.{list_any, join_with_byte}
+use Rattle.std.proofs.Math.Bool.{or-true}
+use Rattle.std.proofs.lemmas.Bool.{false≢true}
 use Rattle.std.specs.Fmt.{digits}
 use Rattle.std.specs.Str.{is_utf8, chars}
 use lib.Utf8.{encode}
@@ -11,6 +14,7 @@ use Rattle.fcxml_profile.specs.Items.{attribute_at, attribute_behind_blanks, att
 use Rattle.fcxml_profile.specs.References.{replacement_of, reference_at, read_within}
 use Rattle.fcxml_profile.specs.Standing.{repeated_behind}
 use Rattle.document_model.specs.Dependencies.{deps}
+use Rattle.document_model.specs.KeptText.{are_attributes, cell_attributes}
 use Rattle.document_model.specs.Resolution.{resolve}
 use Rattle.document_model.specs.WorkedForm.{KindsWork, EditsWork, CountsWork, TypesWork}
 use Rattle.document_model.specs.WorkedText.{AttributesWork, PiecesWork, ForeignPropertiesWork, PlacesWork}
@@ -56,6 +60,17 @@ types_work = record {
   bound = refl;
 }
 
+two_have_blank : (first later : List ℕ) → list_any (λ c. c == 32) (first ++ 32 ∷ later) ≡ true
+two_have_blank [] later = refl
+two_have_blank (c ∷ first) later = rw (two_have_blank first later) (or-true (c == 32))
+
+no_alias_among : (sources : List (List ℕ)) → codes "alias='a'" ≡ join_with_byte 32 sources → are_attributes cell_attributes sources ≡ true → ⊥
+unfolding after behind split_at quoted_at attribute_at is_utf8 chars encode
+no_alias_among [] joined good = absurd (let e = joined in cc)
+no_alias_among (source ∷ []) joined good = false≢true (subst (λ s. are_attributes cell_attributes (s ∷ []) ≡ true) (sym joined) good)
+no_alias_among (source ∷ next ∷ later) joined good =
+    false≢true (ap (list_any (λ c. c == 32)) joined ∙ two_have_blank source (join_with_byte 32 (next ∷ later)))
+
 pub attributes_work : AttributesWork
 unfolding after behind split_at quoted_at attribute_at is_utf8 chars encode
 attributes_work = record {
@@ -72,7 +87,9 @@ attributes_work = record {
   type_of_property = refl;
   schema = refl;
   alias = refl;
+  no_attribute = refl;
   joined = record { sources = codes "a=\"1 2\"" ∷ codes "b='3'" ∷ []; joined = refl; attributes = refl };
+  alias_in_extra = λ h. no_alias_among h.sources h.joined h.attributes;
 }
 
 pub pieces_work : PiecesWork

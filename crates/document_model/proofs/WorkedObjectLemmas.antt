@@ -1,6 +1,6 @@
 -- The worked objects are well-formed, or not, by computation.
-use Rattle.std.proofs.Common.{false, refl, sym, ap, lit≤, [], ◌∷◌}
-use Rattle.std.specs.Prelude.{codes}
+use Rattle.std.proofs.Common.{arith, false, refl, sym, ap, lit≤, [], ◌∷◌}
+use Rattle.std.specs.Prelude.{◌≤◌, codes}
 use Rattle.std.specs.Fmt.{digits}
 use Rattle.std.specs.Option.{option_map_or}
 use Rattle.std.specs.Str.{is_utf8, chars}
@@ -20,7 +20,7 @@ use Rattle.document_model.specs.WellFormed.{IsObject, IsPlan}
 use Rattle.document_model.specs.WorkedObjects.{compound, compound_plan, kept_of, wedge, WellFormedObjectsWork, IllFormedObjectsWork, IllFormedPartsWork}
 
 pub ill_formed_objects_work : IllFormedObjectsWork
-unfolding is_utf8 chars encode unicode_ident after behind split_at quoted_at attribute_at attribute_behind_blanks attributes_within tag_at end_tag_at markup_at item_at items_within repeated_behind
+unfolding is_utf8 chars encode unicode_ident after behind split_at quoted_at attribute_at attribute_behind_blanks attributes_within tag_at end_tag_at markup_at item_at items_within repeated_behind replacement_of reference_at read_within
 ill_formed_objects_work = record {
   name = λ h. false≢true h.name;
   label = λ h. false≢true h.label;
@@ -33,6 +33,8 @@ ill_formed_objects_work = record {
   no_content = λ h. h.dynamics.0.contents;
   group = λ h. false≢true h.dynamics.0.group;
   doc = λ h. false≢true h.dynamics.0.doc;
+  group_not_utf8 = λ h. false≢true h.dynamics.0.group;
+  doc_not_utf8 = λ h. false≢true h.dynamics.0.doc;
   inputs = λ h. h.inputs;
   input_named = λ h. absurd (let e = h.inputs.0 in cc);
   cells = λ h. absurd (let e = h.only_cells in cc);
@@ -44,6 +46,14 @@ ill_formed_objects_work = record {
   members = λ h. absurd (let e = h.only_members in cc);
   attributes = λ h. false≢true h.attributes;
   pieces_in_cells = λ h. absurd (let e = h.pieces.only_in_cells in cc);
+  attributes_of_property = λ h. false≢true h.dynamics.0.attributes;
+  name_of_target = λ h. false≢true h.target.name;
+  piece_in_cells = λ h. false≢true h.pieces.in_cells;
+  name_of_member = λ h. false≢true h.members;
+  kept = λ h. false≢true h.kept;
+  cells_by_column = λ h. false≢true h.cells_in_order;
+  address_in_sheet = λ h. false≢true h.dynamics.0.name;
+  piece_in_properties = λ h. false≢true h.pieces.in_properties;
   pieces = λ h. false≢true h.pieces.in_object;
 }
 
@@ -69,6 +79,23 @@ ill_formed_parts_work = record {
   before = λ h. false≢true h.before;
   between = λ h. false≢true h.between;
   after = λ h. false≢true h.after;
+  longest_type = refl;
+  too_long_type = refl;
+  control_type = refl;
+  square_bounds = λ h. false≢true h.bounds;
+  one_bound = λ h. false≢true h.bounds;
+  unsound = λ h. false≢true h.sound.type_name;
+  kept_twice = refl;
+  placement = refl;
+  no_alias = λ h. false≢true h.alias;
+  text_cell = record { place = record { column_low = lit≤ tt; column_high = lit≤ tt; row_low = lit≤ tt; row_high = lit≤ tt }; no_marks = refl; content = refl; alias = tt; extra = record { sources = []; joined = refl; attributes = refl }; kept = refl };
+  no_text_cell = λ h. false≢true h.content;
+  attributes_alone = record { place = record { column_low = lit≤ tt; column_high = lit≤ tt; row_low = lit≤ tt; row_high = lit≤ tt }; no_marks = refl; content = tt; alias = tt; extra = record { sources = codes "type='x'" ∷ []; joined = refl; attributes = refl }; kept = refl };
+  not_spelled = λ h. false≢true h.content.slot;
+  flag_in_override = record { name = refl; content = tt };
+  names_by_plans = λ h. false≢true h.0.distinct;
+  kinds_by_plans = λ h. false≢true (ap (λ (k : ObjectKind). option_map_or (λ (plan : Slots). plan.placed) (plan_of_kind k) false) (sym h.1.0));
+  row_0 = λ h. let e : 1 ≤ 0 = h.place.row_low in absurd (omega arith);
   other_plan = λ h. false≢true (ap (λ (k : ObjectKind). option_map_or (λ (plan : Slots). plan.placed) (plan_of_kind k) false) (sym h.0));
 }
 

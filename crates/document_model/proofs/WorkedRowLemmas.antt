@@ -14,14 +14,18 @@ unplaced_work = record {
   inputs = refl;
   bounds = refl;
   known = refl;
+  member = refl;
   first_inputs = refl;
 }
 
 pub compounds_work : CompoundsWork
 unfolding resolve deps address_of address_text digits
 compounds_work = record {
+  inputs_of_box = refl;
   box = refl;
   inputs = refl;
+  mirrored = refl;
+  foreign_end = refl;
   known = refl;
 }
 
@@ -30,6 +34,7 @@ unfolding resolve deps address_of address_text digits
 sheets_work = record {
   marked = refl;
   component = refl;
+  no_address = refl;
   name_alone = refl;
   label_alone = refl;
   of_link = refl;
@@ -43,6 +48,7 @@ pub removals_work : RemovalsWork
 unfolding resolve deps address_of address_text digits
 removals_work = record {
   object = refl;
+  by_name = refl;
   last_object = refl;
   property = refl;
   last_property = refl;

@@ -1,19 +1,20 @@
 -- Objects and documents that are well-formed, and some that are not, worked out.
-use Rattle.std.specs.Prelude.{◌≡◌, ℕ, true, false, List, [], ◌∷◌, map, Some, None, codes}
+use Rattle.std.specs.Prelude.{◌≡◌, ℕ, true, false, List, [], ◌∷◌, map, replicate, Some, None, codes}
 use Rattle.object_paths.specs.declared.slot_name.SlotName.TheVariants.{Plain, Marked}
 use Rattle.property_types.specs.declared.prop_type.PropType.{PropType}
 use Rattle.property_types.specs.declared.prop_type.PropType.TheVariants as prop
 use Rattle.property_types.specs.declared.value.Value.TheVariants.{Flag, Text}
 use Rattle.property_types.specs.Plans.{Slots}
+use Rattle.expr_tree.specs.Tree.{path}
 use Rattle.document_model.specs.declared.content.Content.{Content}
-use Rattle.document_model.specs.declared.content.Content.TheVariants.{Own}
+use Rattle.document_model.specs.declared.content.Content.TheVariants.{Own, Bound}
 use Rattle.document_model.specs.declared.kind.ObjectKind.TheVariants.{VarSet, Feature, Foreign}
 use Rattle.document_model.specs.Document.{Object, Property}
 use Rattle.document_model.specs.Examples.{bare_object, document_of, two, varset}
 use Rattle.document_model.specs.Kinds.{FollowsPlans, known_names}
-use Rattle.document_model.specs.LinkedBox.{place_at, mm, edge, origin, result_of, box, box_plan, link, sheet, cell_of, linked_box}
+use Rattle.document_model.specs.LinkedBox.{place_at, mm, edge, origin, result_of, box, box_plan, link, sheet, cell_of, here, linked_box}
 use Rattle.document_model.specs.TypedSlots.{bound_names}
-use Rattle.document_model.specs.WellFormed.{IsCell, IsKind, IsObject, IsOverride, IsWellFormed, are_kept, is_foreign_type}
+use Rattle.document_model.specs.WellFormed.{IsCell, IsDocumentOf, IsKind, IsObject, IsOverride, IsWellFormed, are_kept, is_added_type, is_foreign_type}
 use Rattle.document_model.specs.WorkedForm.{other_box}
 
 -- the plan of a compound, and a compound of these members, at least one
@@ -64,6 +65,17 @@ with_text = record other_box { inputs = record (edge (codes "Length")) { default
 abbrev pub gathering : Slots
 gathering = record other_box { members = true }
 
+-- a plan whose bounds are areas, and one with a single bound
+abbrev pub square_bounds : Slots
+square_bounds = record box_plan { outputs = map (result_of prop.Area) bound_names }
+
+abbrev pub one_bound : Slots
+one_bound = record box_plan { outputs = result_of prop.Distance (codes "MinX") ∷ [] }
+
+-- a plan with the type of a link
+abbrev pub as_link : Slots
+as_link = record box_plan { type_name = codes "App::Link" }
+
 -- what a kind lacks may not stand in its objects; names are good, and none stands twice
 pub record IllFormedObjectsWork : Type 0 where
   pub name : IsObject (record varset { name = codes "1" }) → ⊥
@@ -77,6 +89,8 @@ pub record IllFormedObjectsWork : Type 0 where
   pub no_content : IsObject (record varset { dynamics = record (dynamic prop.Float (codes "a") (Own two)) { contents = [] } ∷ [] }) → ⊥
   pub group : IsObject (record varset { dynamics = record (dynamic prop.Float (codes "a") (Own two)) { group = 1 ∷ [] } ∷ [] }) → ⊥
   pub doc : IsObject (record varset { dynamics = record (dynamic prop.Float (codes "a") (Own two)) { doc = 1 ∷ [] } ∷ [] }) → ⊥
+  pub group_not_utf8 : IsObject (record varset { dynamics = record (dynamic prop.Float (codes "a") (Own two)) { group = 255 ∷ [] } ∷ [] }) → ⊥
+  pub doc_not_utf8 : IsObject (record varset { dynamics = record (dynamic prop.Float (codes "a") (Own two)) { doc = 255 ∷ [] } ∷ [] }) → ⊥
   pub inputs : IsObject (record box { inputs = [] }) → ⊥
   pub input_named : IsObject (record box { inputs = (Plain (codes "Depth"), Own (mm 1)) ∷ (Plain (codes "Width"), Own (mm 1)) ∷ (Plain (codes "Height"), Own (mm 1)) ∷ origin }) → ⊥
   pub cells : IsObject (record varset { cells = cell_of 1 1 (Own two) ∷ [] }) → ⊥
@@ -93,9 +107,17 @@ pub record IllFormedObjectsWork : Type 0 where
   pub members : IsObject (record box { members = codes "V" ∷ [] }) → ⊥
   pub attributes : IsObject (record varset { attributes = codes "name=\"x\"" ∷ [] }) → ⊥
   pub pieces_in_cells : IsObject (record varset { pieces = record { in_object = []; in_properties = []; in_cells = codes "<a/>" ∷ [] } }) → ⊥
+  pub attributes_of_property : IsObject (record varset { dynamics = record (dynamic prop.Float (codes "a") (Own two)) { attributes = codes "type=\"x\"" ∷ [] } ∷ [] }) → ⊥
+  pub name_of_target : IsObject (record link { target = Some (codes "1") }) → ⊥
+  pub piece_in_cells : IsObject (record sheet { pieces = record { in_object = []; in_properties = []; in_cells = codes "<Cell/>" ∷ [] } }) → ⊥
+  pub name_of_member : IsObject (compound (codes "C") (codes "1") []) → ⊥
+  pub kept : IsObject (record varset { kept = kept_of (codes "Placement") ∷ [] }) → ⊥
+  pub cells_by_column : IsObject (record sheet { cells = cell_of 1 1 (Own two) ∷ cell_of 1 2 (Own two) ∷ cell_of 2 1 (Own two) ∷ [] }) → ⊥
+  pub address_in_sheet : IsObject (record sheet { dynamics = dynamic prop.Float (codes "A1") (Own two) ∷ [] }) → ⊥
+  pub piece_in_properties : IsObject (record varset { pieces = record { in_object = []; in_properties = codes "<Property name=\"Label\"/>" ∷ []; in_cells = [] } }) → ⊥
   pub pieces : IsObject (record varset { pieces = record { in_object = codes "<Properties/>" ∷ []; in_properties = []; in_cells = [] } }) → ⊥
 
--- cells, overrides, kinds and documents that are not well-formed
+-- cells, overrides, kinds and documents that are not well-formed, and some next to them that are
 pub record IllFormedPartsWork : Type 0 where
   pub empty_cell : IsCell (place_at 1 1, record { content = None; alias = None; extra = [] }) → ⊥
   pub flag_cell : IsCell (cell_of 1 1 (Own (Flag true))) → ⊥
@@ -116,4 +138,21 @@ pub record IllFormedPartsWork : Type 0 where
   pub before : IsWellFormed (record (document_of []) { before = codes "<Objects/>" ∷ [] }) → ⊥
   pub between : IsWellFormed (record (document_of []) { between = codes "<Objects/>" ∷ [] }) → ⊥
   pub after : IsWellFormed (record (document_of []) { after = codes "<Objects/>" ∷ [] }) → ⊥
+  pub longest_type : is_foreign_type (replicate 128 65) ≡ true
+  pub too_long_type : is_foreign_type (replicate 129 65) ≡ false
+  pub control_type : is_foreign_type (1 ∷ []) ≡ false
+  pub square_bounds : IsKind (Feature square_bounds) → ⊥
+  pub one_bound : IsKind (Feature one_bound) → ⊥
+  pub unsound : IsKind (Feature as_link) → ⊥
+  pub kept_twice : are_kept (known_names VarSet) (kept_of (codes "Label") ∷ kept_of (codes "Label") ∷ []) ≡ false
+  pub placement : is_added_type prop.Placement ≡ true
+  pub no_alias : IsCell (place_at 1 1, record { content = None; alias = Some (codes "a b"); extra = [] }) → ⊥
+  pub text_cell : IsCell (cell_of 1 1 (Own (Text (codes "t"))))
+  pub no_text_cell : IsCell (cell_of 1 1 (Own (Text (255 ∷ [])))) → ⊥
+  pub attributes_alone : IsCell (place_at 1 1, record { content = None; alias = None; extra = codes "type='x'" })
+  pub not_spelled : IsOverride (Plain (codes "a"), Bound (path (here (Plain (codes "1"))))) → ⊥
+  pub flag_in_override : IsOverride (Plain (codes "a"), Own (Flag true))
+  pub names_by_plans : IsDocumentOf [] (document_of (varset ∷ varset ∷ [])) → ⊥
+  pub kinds_by_plans : IsDocumentOf (other_box ∷ []) linked_box → ⊥
+  pub row_0 : IsCell (place_at 1 0, record { content = Some (Own two); alias = None; extra = [] }) → ⊥
   pub other_plan : FollowsPlans (other_box ∷ []) linked_box → ⊥

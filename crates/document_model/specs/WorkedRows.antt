@@ -15,13 +15,13 @@ use Rattle.document_model.specs.declared.kind.ObjectKind.TheVariants.{VarSet, Sh
 use Rattle.document_model.specs.Dependencies.{deps, inputs_of}
 use Rattle.document_model.specs.Document.{Document, Object, Property}
 use Rattle.document_model.specs.Edited.{new_object, with_content, with_object, with_property, without_object, without_property}
-use Rattle.document_model.specs.Ends.{has_bounds}
+use Rattle.document_model.specs.Ends.{end_of, has_bounds}
 use Rattle.document_model.specs.Examples.{bare_object, document_of, two, varset}
 use Rattle.document_model.specs.Kinds.{known_names}
 use Rattle.document_model.specs.LinkedBox.{place_at, mm, plain, edge, origin, result_of, box, link, second_link, sheet, cell_of, cell_at, here, labelled, named, part, linked_box}
 use Rattle.document_model.specs.Resolution.{resolve}
 use Rattle.document_model.specs.Slots.{Row, own, rows, rule_of, slots, type_of}
-use Rattle.document_model.specs.WorkedObjects.{compound, compound_plan, dynamic}
+use Rattle.document_model.specs.WorkedObjects.{compound, compound_plan, dynamic, wedge}
 
 -- a frame: a feature that is not placed
 abbrev pub frame_plan : Slots
@@ -79,7 +79,7 @@ names_in d o = map (λ (r : Row). r.name) (rows d o)
 abbrev pub parts : List ℕ → List SlotName
 parts name = map (Component name) (X ∷ Y ∷ Z ∷ Turn ∷ [])
 
--- a frame has no placement and no bounds; a link to it has its own
+-- a frame has no placement and no bounds, and gives a compound none; a link to it has its own placement
 pub record UnplacedWork : Type 0 where
   pub own : names_in framed frame ≡ Plain (codes "Width") ∷ Plain (codes "Height") ∷ Plain (codes "Opening") ∷ []
   pub link :
@@ -88,11 +88,15 @@ pub record UnplacedWork : Type 0 where
   pub inputs : inputs_of framed frame ≡ Some (named (codes "F") (codes "Width") ∷ named (codes "F") (codes "Height") ∷ [])
   pub bounds : map (has_bounds framed) framed.objects ≡ false ∷ false ∷ []
   pub known : known_names (Feature frame_plan) ≡ codes "Label" ∷ codes "Width" ∷ codes "Height" ∷ codes "ExpressionEngine" ∷ []
+  pub member : inputs_of (document_of (frame ∷ compound (codes "C") (codes "F") [] ∷ [])) (compound (codes "C") (codes "F") []) ≡ Some (part (codes "C") (codes "Placement"))
   pub first_inputs : length (new_object (codes "F") (codes "F") (Feature frame_plan)).inputs ≡ 2
 
--- the slots of a box stand with its dynamic property between inputs and outputs; a link to a compound
--- reads the compound's members
+-- the slots of a box stand with its dynamic property between inputs and outputs, and a link mirrors them;
+-- a box reads its own placement, and a link to a compound the compound's members; a foreign object is an end
 pub record CompoundsWork : Type 0 where
+  pub inputs_of_box :
+      inputs_of linked_box box
+      ≡ Some (named (codes "Box") (codes "Length") ∷ named (codes "Box") (codes "Width") ∷ named (codes "Box") (codes "Height") ∷ part (codes "Box") (codes "Placement"))
   pub box :
       map (λ (r : Row). r.name) (rows gathered (record box { dynamics = dynamic prop.Float (codes "a") (Own two) ∷ [] }))
       ≡ Plain (codes "Length") ∷ Plain (codes "Width") ∷ Plain (codes "Height") ∷ parts (codes "Placement") ++ Plain (codes "a") ∷ Plain (codes "Volume")
@@ -101,6 +105,12 @@ pub record CompoundsWork : Type 0 where
   pub inputs :
       inputs_of gathered (link_to (codes "K") (codes "C"))
       ≡ Some (part (codes "K") (codes "Global") ++ map (named (codes "Box")) (codes "MinX" ∷ codes "MinY" ∷ codes "MinZ" ∷ codes "MaxX" ∷ codes "MaxY" ∷ codes "MaxZ" ∷ []))
+  pub mirrored :
+      names_in gathered (link_to (codes "M") (codes "Box"))
+      ≡ parts (codes "Placement") ++ Plain (codes "LinkTransform") ∷ Plain (codes "Length") ∷ Plain (codes "Width") ∷ Plain (codes "Height") ∷ Plain (codes "a")
+      ∷ Plain (codes "Volume") ∷ Plain (codes "Area") ∷ Plain (codes "MinX") ∷ Plain (codes "MinY") ∷ Plain (codes "MinZ") ∷ Plain (codes "MaxX")
+      ∷ Plain (codes "MaxY") ∷ Plain (codes "MaxZ") ∷ parts (codes "Global")
+  pub foreign_end : end_of (document_of (wedge ∷ link_to (codes "K") (codes "F") ∷ [])) (link_to (codes "K") (codes "F")) ≡ Some wedge
   pub known :
       map known_names (Feature compound_plan ∷ VarSet ∷ Sheet ∷ Link ∷ Foreign (codes "A") ∷ [])
       ≡ (codes "Label" ∷ codes "Placement" ∷ codes "Links" ∷ codes "ExpressionEngine" ∷ []) ∷ (codes "Label" ∷ codes "ExpressionEngine" ∷ [])
@@ -115,6 +125,10 @@ pub record SheetsWork : Type 0 where
       resolve linked_box sheet (here (Marked (record { column = 1; row = 3; fixed_column = true; fixed_row = true }))) ≡ Some (cell_at 1 3)
   pub component :
       resolve linked_sheet placed_sheet (here (Component (codes "P") Y)) ≡ Some (record { object = codes "S"; name = Component (codes "P") Y })
+  pub no_address :
+      resolve (document_of (record varset { dynamics = dynamic prop.Float (codes "A1") (Own two) ∷ [] } ∷ [])) varset
+      (record { owner = ByName (codes "V"); slot = Plain (codes "A1") })
+      ≡ Some (named (codes "V") (codes "A1"))
   pub name_alone : resolve linked_box sheet (record { owner = ByName (codes "My box"); slot = Plain (codes "Length") }) ≡ None
   pub label_alone : resolve linked_box sheet (labelled (codes "Box") (Plain (codes "Length"))) ≡ None
   pub of_link : resolve linked_box sheet (record { owner = ByName (codes "L"); slot = Plain (codes "Width") }) ≡ Some (named (codes "L") (codes "Width"))
@@ -128,6 +142,7 @@ pub record SheetsWork : Type 0 where
 -- one part is changed
 pub record RemovalsWork : Type 0 where
   pub object : map (λ (o : Object). o.name) (without_object linked_box (codes "L")).objects ≡ codes "Box" ∷ codes "L2" ∷ codes "L3" ∷ codes "S" ∷ []
+  pub by_name : map (λ (o : Object). o.name) (without_object linked_box (codes "Box")).objects ≡ codes "L" ∷ codes "L2" ∷ codes "L3" ∷ codes "S" ∷ []
   pub last_object : map (λ (o : Object). o.name) (with_object framed (bare_object (codes "A") VarSet)).objects ≡ codes "F" ∷ codes "K" ∷ codes "A" ∷ []
   pub property :
       slots (without_property (document_of (record varset { dynamics = dynamic prop.Float (codes "b") (Own two) ∷ varset.dynamics } ∷ [])) (codes "V") (codes "a"))

@@ -6,7 +6,7 @@ use Rattle.document_model.specs.KeptText.{is_attribute, are_attributes, is_piece
 use Rattle.document_model.specs.LinkedBox.{box_plan}
 
 -- an attribute is a whole one, of characters that XML allows; of those kept none stands twice, none is
--- one that is read of its element, and none is called `id`
+-- one that is read of its element, and none is called `id`; so it is with those joined in a cell
 pub record AttributesWork : Type 0 where
   pub one : is_attribute (codes "status=\"1\"") ≡ true
   pub with_blanks : is_attribute (codes "a = 'x>\"y'") ≡ true
@@ -21,7 +21,9 @@ pub record AttributesWork : Type 0 where
   pub type_of_property : are_attributes property_attributes (codes "type=\"x\"" ∷ []) ≡ false
   pub schema : are_attributes document_attributes (codes "SchemaVersion=\"4\"" ∷ []) ≡ false
   pub alias : are_attributes cell_attributes (codes "alias=\"a\"" ∷ []) ≡ false
+  pub no_attribute : are_attributes property_attributes (codes "status" ∷ []) ≡ false
   pub joined : IsExtra cell_attributes (codes "a=\"1 2\" b='3'")
+  pub alias_in_extra : IsExtra cell_attributes (codes "alias='a'") → ⊥
 
 -- a piece is one whole element, with nothing before and after it, that is not read at its place
 pub record PiecesWork : Type 0 where
