@@ -104,6 +104,7 @@ pieces_work = record {
   comment = refl;
   end_alone = refl;
   repeated = refl;
+  repeated_in_front = refl;
   control = refl;
   objects = refl;
   object_data = refl;

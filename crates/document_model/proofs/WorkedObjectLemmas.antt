@@ -30,6 +30,7 @@ ill_formed_objects_work = record {
   reserved = λ h. false≢true h.dynamics.0.name;
   turn = λ h. false≢true h.dynamics.0.type;
   text_in_float = λ h. false≢true h.dynamics.0.contents.0.1;
+  expression_not_spelled = λ h. false≢true h.dynamics.0.contents.0.slot;
   no_content = λ h. h.dynamics.0.contents;
   group = λ h. false≢true h.dynamics.0.group;
   doc = λ h. false≢true h.dynamics.0.doc;
@@ -88,6 +89,7 @@ ill_formed_parts_work = record {
   kept_twice = refl;
   placement = refl;
   no_alias = λ h. false≢true h.alias;
+  cell_not_spelled = λ h. false≢true h.content.slot;
   text_cell = record { place = record { column_low = lit≤ tt; column_high = lit≤ tt; row_low = lit≤ tt; row_high = lit≤ tt }; no_marks = refl; content = refl; alias = tt; extra = record { sources = []; joined = refl; attributes = refl }; kept = refl };
   no_text_cell = λ h. false≢true h.content;
   attributes_alone = record { place = record { column_low = lit≤ tt; column_high = lit≤ tt; row_low = lit≤ tt; row_high = lit≤ tt }; no_marks = refl; content = tt; alias = tt; extra = record { sources = codes "type='x'" ∷ []; joined = refl; attributes = refl }; kept = refl };

@@ -86,6 +86,7 @@ pub record IllFormedObjectsWork : Type 0 where
   pub reserved : IsObject (record varset { dynamics = dynamic prop.Float (codes "Label") (Own two) ∷ [] }) → ⊥
   pub turn : IsObject (record varset { dynamics = dynamic prop.Turn (codes "a") (Own two) ∷ [] }) → ⊥
   pub text_in_float : IsObject (record varset { dynamics = dynamic prop.Float (codes "a") (Own (Text (codes "t"))) ∷ [] }) → ⊥
+  pub expression_not_spelled : IsObject (record varset { dynamics = dynamic prop.Float (codes "a") (Bound (path (here (Plain (codes "1"))))) ∷ [] }) → ⊥
   pub no_content : IsObject (record varset { dynamics = record (dynamic prop.Float (codes "a") (Own two)) { contents = [] } ∷ [] }) → ⊥
   pub group : IsObject (record varset { dynamics = record (dynamic prop.Float (codes "a") (Own two)) { group = 1 ∷ [] } ∷ [] }) → ⊥
   pub doc : IsObject (record varset { dynamics = record (dynamic prop.Float (codes "a") (Own two)) { doc = 1 ∷ [] } ∷ [] }) → ⊥
@@ -147,6 +148,7 @@ pub record IllFormedPartsWork : Type 0 where
   pub kept_twice : are_kept (known_names VarSet) (kept_of (codes "Label") ∷ kept_of (codes "Label") ∷ []) ≡ false
   pub placement : is_added_type prop.Placement ≡ true
   pub no_alias : IsCell (place_at 1 1, record { content = None; alias = Some (codes "a b"); extra = [] }) → ⊥
+  pub cell_not_spelled : IsCell (cell_of 1 1 (Bound (path (here (Plain (codes "1")))))) → ⊥
   pub text_cell : IsCell (cell_of 1 1 (Own (Text (codes "t"))))
   pub no_text_cell : IsCell (cell_of 1 1 (Own (Text (255 ∷ [])))) → ⊥
   pub attributes_alone : IsCell (place_at 1 1, record { content = None; alias = None; extra = codes "type='x'" })

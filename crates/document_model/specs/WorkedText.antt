@@ -36,6 +36,7 @@ pub record PiecesWork : Type 0 where
   pub comment : is_document_piece (codes "<!-- a -->") ≡ false
   pub end_alone : is_document_piece (codes "</a>") ≡ false
   pub repeated : is_document_piece (codes "<a b=\"1\" b=\"2\"/>") ≡ false
+  pub repeated_in_front : is_document_piece (codes "<a b=\"1\" b=\"2\"></a>") ≡ false
   pub control : is_document_piece (codes "<a>" ++ 1 ∷ codes "</a>") ≡ false
   pub objects : is_document_piece (codes "<Objects/>") ≡ false
   pub object_data : is_document_piece (codes "<ObjectData/>") ≡ false
