@@ -46,6 +46,7 @@ faulted_works m = record {
   e = refl;
   f = refl;
   g = refl;
+  no_slot = refl;
   valid = refl;
 }
 
@@ -60,9 +61,11 @@ first_faults_work = record {
   exponent = refl;
   pure = refl;
   range = refl;
+  first_range = refl;
   sort_first = refl;
   brackets_32 = refl;
   brackets_33 = refl;
+  numbers = refl;
   label = refl;
 }
 
@@ -72,6 +75,8 @@ sheet_works m = record {
   total = refl;
   by_alias = refl;
   valid = refl;
+  empty_area = refl;
+  empty_total = refl;
   text = refl;
 }
 
@@ -91,6 +96,7 @@ link_faults_work = record {
   endless = refl;
   no_target = refl;
   no_slot = refl;
+  override_through = refl;
   other_unit = refl;
 }
 

@@ -49,6 +49,7 @@ reference_faults_work = record {
   target_before_override = refl;
   slot_of_override = refl;
   object_by_object = refl;
+  area_outside_sheet = refl;
   no_member = refl;
 }
 
@@ -100,6 +101,7 @@ placements_work = record {
   x = refl;
   y = refl;
   turn = refl;
+  no_turn = refl;
   own_turn = refl;
 }
 

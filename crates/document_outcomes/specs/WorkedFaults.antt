@@ -12,6 +12,7 @@ use Rattle.document_model.specs.Examples.{document_of}
 use Rattle.document_model.specs.LinkedBox.{named}
 use Rattle.document_outcomes.specs.Cycles.{is_cyclic}
 use Rattle.document_outcomes.specs.Faults.{first_fault}
+use Rattle.document_outcomes.specs.RefusalNumbers as number
 use Rattle.document_outcomes.specs.WorkedParts.{numeral, its, of_object, property, var_set}
 
 -- `a` is `b`, `b` is `W.c`, and W's `c` is `V.b`
@@ -70,7 +71,8 @@ with_float content = document_of (var_set (codes "V") (property Float (codes "a"
 
 -- the first fault of each: a cycle is named by the first slot in it, an unknown reference comes before
 -- the cycle of an earlier slot, a sort that is missing before an earlier value outside its type, and a
--- label that is taken before all of these. A pure number is given to a Length without a fault
+-- label that is taken before all of these. A pure number is given to a Length without a fault. The numbers of
+-- refusals follow one another
 pub record FirstFaultsWork : Type 0 where
   pub cycle : first_fault in_cycle ≡ Some (record { number = 14; subject = codes "V.b" })
   pub outside_cycle : is_cyclic in_cycle (named (codes "V") (codes "a")) ≡ false
@@ -80,7 +82,17 @@ pub record FirstFaultsWork : Type 0 where
   pub exponent : first_fault (with_length eighth_power) ≡ Some (record { number = 17; subject = codes "V.l" })
   pub pure : first_fault (with_length (Bound (numeral 3))) ≡ None
   pub range : first_fault (with_length below_zero) ≡ Some (record { number = 10; subject = codes "V.l" })
+  pub first_range :
+      first_fault (document_of (var_set (codes "V") (property Length (codes "l") below_zero ∷ property Length (codes "n") below_zero ∷ []) ∷ []))
+      ≡ Some (record { number = 10; subject = codes "V.l" })
   pub sort_first : first_fault two_faults ≡ Some (record { number = 16; subject = codes "V.m" })
   pub brackets_32 : first_fault (with_float (Bound (nested 33))) ≡ None
   pub brackets_33 : first_fault (with_float (Bound (nested 34))) ≡ Some (record { number = 29; subject = [] })
+  pub numbers :
+      number.syntax ∷ number.no_object ∷ number.no_property ∷ number.name_taken ∷ number.bad_name ∷ number.label_taken
+      ∷ number.bad_label ∷ number.read_only ∷ number.wrong_type ∷ number.out_of_range ∷ number.expr_syntax ∷ number.unknown_reference
+      ∷ number.not_dynamic ∷ number.cycle ∷ number.unit_mismatch ∷ number.kind_mismatch ∷ number.exponent_range ∷ number.not_overridden
+      ∷ number.sheet_edge ∷ number.cell_taken ∷ number.bad_alias ∷ number.alias_taken ∷ number.link_kind ∷ number.transaction_open
+      ∷ number.no_transaction ∷ number.nothing_to_undo ∷ number.nothing_to_redo ∷ number.not_recomputed ∷ number.too_many ∷ number.no_feature ∷ number.not_built ∷ []
+      ≡ 1 ∷ 2 ∷ 3 ∷ 4 ∷ 5 ∷ 6 ∷ 7 ∷ 8 ∷ 9 ∷ 10 ∷ 11 ∷ 12 ∷ 13 ∷ 14 ∷ 15 ∷ 16 ∷ 17 ∷ 18 ∷ 19 ∷ 20 ∷ 21 ∷ 22 ∷ 23 ∷ 24 ∷ 25 ∷ 26 ∷ 27 ∷ 28 ∷ 29 ∷ 30 ∷ 99 ∷ []
   pub label : first_fault labelled_alike ≡ Some (record { number = 6; subject = codes "W" })

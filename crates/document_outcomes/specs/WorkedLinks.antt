@@ -34,11 +34,15 @@ sheet_with first =
           ∷ [];
     } ∷ [])
 
--- the sum of the filled cells is 4, and B5 is 6; a text among them leaves the sum without a sort
+-- the sum of the filled cells is 4, and B5 is 6; the sum of none is 0, and no fault; a text among them leaves
+-- the sum without a sort
 pub record SheetWorks (m : Meanings) : Type 0 where
   pub total : full m (sheet_with (Own (whole 1))) (cell_at 1 5) ≡ Ok (whole 4)
   pub by_alias : full m (sheet_with (Own (whole 1))) (cell_at 2 5) ≡ Ok (whole 6)
   pub valid : first_fault (sheet_with (Own (whole 1))) ≡ None
+  pub empty_area : first_fault (document_of (record (bare_object (codes "S") Sheet) { cells = cell_of 1 5 (Bound first_three) ∷ [] } ∷ [])) ≡ None
+  pub empty_total :
+      full m (document_of (record (bare_object (codes "S") Sheet) { cells = cell_of 1 5 (Bound first_three) ∷ [] } ∷ [])) (cell_at 1 5) ≡ Ok (whole 0)
   pub text : first_fault (sheet_with (Own (Text (codes "one")))) ≡ Some (record { number = 16; subject = codes "S.A5" })
 
 -- a link with that target and those overrides
@@ -69,7 +73,8 @@ abbrev pub found : ℕ → List ℕ → Fault
 found number subject = record { number = number; subject = subject }
 
 -- a chain of links that runs into a cycle is no member of it; an override of no mirrored slot, a
--- target that is not there, and an override of another unit have their faults
+-- target that is not there, and an override of another unit have their faults; a link to a link may override
+-- what the end of the chain has
 pub record LinkFaultsWork : Type 0 where
   pub cycle :
       first_fault (document_of (link_to (codes "L") (codes "K") [] ∷ link_to (codes "K") (codes "J") [] ∷ link_to (codes "J") (codes "K") [] ∷ []))
@@ -79,6 +84,9 @@ pub record LinkFaultsWork : Type 0 where
   pub no_slot :
       first_fault (document_of (target ∷ link_to (codes "L") (codes "V") ((Plain (codes "c"), Own (whole 5)) ∷ []) ∷ []))
       ≡ Some (found 12 (codes "L.c"))
+  pub override_through :
+      first_fault (document_of (target ∷ link_to (codes "L") (codes "V") [] ∷ link_to (codes "K") (codes "L") ((Plain (codes "a"), Own (whole 5)) ∷ []) ∷ []))
+      ≡ None
   pub other_unit :
       first_fault (document_of (target ∷ link_to (codes "L") (codes "V") ((Plain (codes "a"), Own (mm 5000000000)) ∷ []) ∷ []))
       ≡ Some (found 15 (codes "L.a"))

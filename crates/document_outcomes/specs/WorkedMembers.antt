@@ -1,5 +1,5 @@
 -- Compounds, names that hide one another, and entries of features, worked out.
-use Rattle.std.specs.Prelude.{◌≡◌, ℕ, ℤ, pos, ◌+ℤ◌, ◌-ℤ◌, true, false, List, [], ◌∷◌, ◌++◌, map, Option, Some, None, Ok, slice_get, codes}
+use Rattle.std.specs.Prelude.{◌≡◌, ℕ, ℤ, pos, ◌+ℤ◌, ◌-ℤ◌, true, false, List, [], ◌∷◌, ◌++◌, map, Option, Some, None, Ok, Err, slice_get, codes}
 use Rattle.object_paths.specs.declared.slot_name.Component as c
 use Rattle.object_paths.specs.declared.slot_name.Component.TheVariants.{X, Y, Z, Turn}
 use Rattle.object_paths.specs.declared.slot_name.SlotName.{SlotName}
@@ -9,6 +9,7 @@ use Rattle.object_paths.specs.Slots.{Slot}
 use Rattle.property_types.specs.declared.prop_type.PropType.TheVariants.{Float, Placement}
 use Rattle.property_types.specs.declared.value.Value.{Value}
 use Rattle.property_types.specs.declared.value.Value.TheVariants.{Number, Flag}
+use Rattle.property_types.specs.declared.value.ValueFault.TheVariants.{Range}
 use Rattle.property_types.specs.Types.{unit_of}
 use Rattle.property_types.specs.Values.{Outcome}
 use Rattle.document_model.specs.declared.content.Content.{Content}
@@ -21,7 +22,7 @@ use Rattle.document_model.specs.WorkedObjects.{compound}
 use Rattle.document_model.specs.WorkedRows.{frame}
 use Rattle.document_outcomes.specs.Called.{Entry, input_lists, called}
 use Rattle.document_outcomes.specs.Faults.{first_fault}
-use Rattle.document_outcomes.specs.Full.{Meanings, full, part_of}
+use Rattle.document_outcomes.specs.Full.{Meanings, full, global_part, part_of}
 use Rattle.document_outcomes.specs.WorkedLinks.{link_to, target, found, echo, box_and_link}
 use Rattle.document_outcomes.specs.WorkedParts.{whole, its, property, var_set}
 
@@ -129,9 +130,10 @@ turned_link =
 abbrev pub global : c.Component → Slot
 global k = record { object = codes "L"; name = Component (codes "Global") k }
 
--- the box's x, turned with the link, is added to the link's y
+-- the box's x, turned with the link, is added to the link's y; where a part is missing, it is Range
 pub record PlacementsWork : Type 0 where
   pub x : full quarters turned_link (global X) ≡ Ok (mm 0)
   pub y : full quarters turned_link (global Y) ≡ Ok (mm 6000000000)
   pub turn : full quarters turned_link (global Turn) ≡ Ok (plain 2000000000)
+  pub no_turn : global_part echo Turn (mm 1 ∷ mm 2 ∷ mm 3 ∷ []) ≡ Err Range
   pub own_turn : full echo (box_and_link false) (global Turn) ≡ Ok (plain 0)

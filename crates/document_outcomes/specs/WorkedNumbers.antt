@@ -50,8 +50,8 @@ faulted =
     ∷ [])
     ∷ [])
 
--- Range spreads to what reads it, and an arm that is not chosen is not read. Faulted outcomes are no
--- faults of the document
+-- Range spreads to what reads it, and an arm that is not chosen is not read; a path that names no slot
+-- gives Range. Faulted outcomes are no faults of the document
 pub record FaultedWorks (m : Meanings) : Type 0 where
   pub b : full m faulted (named (codes "V") (codes "b")) ≡ Err Range
   pub c : full m faulted (named (codes "V") (codes "c")) ≡ Err Range
@@ -59,4 +59,6 @@ pub record FaultedWorks (m : Meanings) : Type 0 where
   pub e : full m faulted (named (codes "V") (codes "e")) ≡ Err DivideByZero
   pub f : full m faulted (named (codes "V") (codes "f")) ≡ Err NotWhole
   pub g : full m faulted (named (codes "V") (codes "g")) ≡ Err OutOfType
+  pub no_slot :
+      full m (document_of (var_set (codes "V") (property Float (codes "a") (Bound (its (codes "nothing"))) ∷ []) ∷ [])) (named (codes "V") (codes "a")) ≡ Err Range
   pub valid : IsValid faulted

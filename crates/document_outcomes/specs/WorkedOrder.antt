@@ -10,7 +10,7 @@ use Rattle.document_model.specs.declared.content.Content.TheVariants.{Own, Bound
 use Rattle.document_model.specs.declared.kind.ObjectKind.TheVariants.{Feature}
 use Rattle.document_model.specs.Document.{Document, Object}
 use Rattle.document_model.specs.Examples.{bare_object, document_of}
-use Rattle.document_model.specs.LinkedBox.{mm, box}
+use Rattle.document_model.specs.LinkedBox.{mm, box, first_three}
 use Rattle.document_model.specs.WorkedObjects.{compound}
 use Rattle.document_outcomes.specs.Faults.{first_fault}
 use Rattle.document_outcomes.specs.WorkedFaults.{nested, with_float}
@@ -70,6 +70,8 @@ pub record ReferenceFaultsWork : Type 0 where
       first_fault (document_of (target ∷ to_v ((Plain (codes "a"), Bound (its (codes "nothing"))) ∷ []) ∷ [])) ≡ Some (found 12 (codes "L.a"))
   pub object_by_object :
       first_fault (document_of (unknown ∷ link_to (codes "L") (codes "W") [] ∷ [])) ≡ Some (found 12 (codes "V.c"))
+  pub area_outside_sheet :
+      first_fault (document_of (var_set (codes "V") (property Float (codes "a") (Bound first_three) ∷ []) ∷ [])) ≡ Some (found 12 (codes "V.a"))
   pub no_member : first_fault (document_of (compound (codes "C") (codes "Box") [] ∷ [])) ≡ Some (found 12 (codes "C"))
 
 -- what is given to a slot has the slot's sort: a flag a Bool, a text a String, and a number of no unit
