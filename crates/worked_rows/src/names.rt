@@ -5,84 +5,145 @@ use std::alloc::{AllocError, Global};
 use std::collections::HashMap;
 use std::test::Fail;
 
-/// Whether a name, its copy, and the label and the text of it are this text.
-fn is_name_kept(alloc: Global, text: &str) -> Result<bool, Fail> {
-    let name = Name::read(alloc, text)?;
-    let copy = name.copy(alloc)?;
-    let label = name.to_label(alloc)?;
-    let value = name.to_text_value(alloc)?;
-    Ok(copy.as_str() == text && label.as_str() == text && value.as_str() == text)
+fn is_copied(alloc: Global, name: &Name, text: &str) -> Result<bool, AllocError> {
+    Ok(name.copy(alloc)?.as_str() == text)
 }
 
-fn is_bad_name(alloc: Global, text: &str) -> bool {
-    matches!(Name::read(alloc, text), Err(NameFault::BadName))
+fn has_label(alloc: Global, name: &Name, text: &str) -> Result<bool, AllocError> {
+    Ok(name.to_label(alloc)?.as_str() == text)
+}
+
+fn has_value(alloc: Global, name: &Name, text: &str) -> Result<bool, AllocError> {
+    Ok(name.to_text_value(alloc)?.as_str() == text)
+}
+
+/// Whether the copy, the label and the text of a name are this text.
+fn is_told(alloc: Global, name: &Name, text: &str) -> Result<bool, AllocError> {
+    Ok(
+        is_copied(alloc, name, text)?
+            && has_label(alloc, name, text)?
+            && has_value(alloc, name, text)?,
+    )
+}
+
+/// Whether a name keeps its text; nothing where the text is no name.
+fn name_keeps(alloc: Global, text: &str) -> Result<Option<bool>, AllocError> {
+    match Name::read(alloc, text) {
+        Ok(name) => Ok(Some(is_told(alloc, &name, text)?)),
+        Err(NameFault::BadName) => Ok(None),
+        Err(NameFault::Memory(error)) => Err(error),
+    }
+}
+
+/// Whether the copy of a label keeps its text; nothing where the text is no label.
+fn label_keeps(alloc: Global, text: &str) -> Result<Option<bool>, AllocError> {
+    match Label::read(alloc, text) {
+        Ok(label) => Ok(Some(label.copy(alloc)?.as_str() == text)),
+        Err(LabelFault::BadLabel) => Ok(None),
+        Err(LabelFault::Memory(error)) => Err(error),
+    }
+}
+
+/// Whether the copy of a text value keeps its text; nothing where the text has a bad character.
+fn value_keeps(alloc: Global, text: &str) -> Result<Option<bool>, AllocError> {
+    match TextValue::read(alloc, text) {
+        Ok(value) => Ok(Some(value.copy(alloc)?.as_str() == text)),
+        Err(TextFault::BadText) => Ok(None),
+        Err(TextFault::TooLong) => Ok(Some(false)),
+        Err(TextFault::Memory(error)) => Err(error),
+    }
+}
+
+/// What a text is read as.
+enum Kind {
+    Name,
+    Label,
+    Value,
+}
+
+/// What texts are read as, the texts, and whether they are kept, where they are not refused.
+static READ: [(Kind, &str, Option<bool>); 38] = [
+    (Kind::Name, "V", Some(true)),
+    (Kind::Name, "_", Some(true)),
+    (Kind::Name, "_9", Some(true)),
+    (Kind::Name, "Box001", Some(true)),
+    (Kind::Name, "größe", Some(true)),
+    (Kind::Name, "长度", Some(true)),
+    (
+        Kind::Name,
+        "a23456789b123456789c123456789d123456789e123456789f123456789g1234",
+        Some(true),
+    ),
+    (Kind::Name, "", None),
+    (Kind::Name, "9a", None),
+    (Kind::Name, "a b", None),
+    (Kind::Name, "a.b", None),
+    (Kind::Name, "-", None),
+    (Kind::Name, "a-b", None),
+    (Kind::Name, "é!", None),
+    (Kind::Name, "$A", None),
+    (
+        Kind::Name,
+        "a23456789b123456789c123456789d123456789e123456789f123456789g12345",
+        None,
+    ),
+    (Kind::Label, "Body", Some(true)),
+    (Kind::Label, "My box", Some(true)),
+    (Kind::Label, "<<", Some(true)),
+    (Kind::Label, "a>b", Some(true)),
+    (Kind::Label, ">a", Some(true)),
+    (Kind::Label, "größe", Some(true)),
+    (Kind::Label, "a\u{7f}", Some(true)),
+    (Kind::Label, "", None),
+    (Kind::Label, ">", None),
+    (Kind::Label, "a>", None),
+    (Kind::Label, "a>>b", None),
+    (Kind::Label, ">>a", None),
+    (Kind::Label, "a\tb", None),
+    (Kind::Label, "a\n", None),
+    (Kind::Value, "", Some(true)),
+    (Kind::Value, "a>>b", Some(true)),
+    (Kind::Value, "tab\tand\r\nlines", Some(true)),
+    (Kind::Value, "größe", Some(true)),
+    (Kind::Value, "\u{7f}", Some(true)),
+    (Kind::Value, "\u{0}", None),
+    (Kind::Value, "a\u{1b}b", None),
+    (Kind::Value, "\u{b}", None),
+];
+
+fn keeps(alloc: Global, kind: &Kind, text: &str) -> Result<Option<bool>, AllocError> {
+    match kind {
+        Kind::Name => name_keeps(alloc, text),
+        Kind::Label => label_keeps(alloc, text),
+        Kind::Value => value_keeps(alloc, text),
+    }
 }
 
 #[test]
-fn reads_names(rt: HostRuntime) -> Result<(), Fail> {
-    let longest = "a23456789b123456789c123456789d123456789e123456789f123456789g1234";
-    for text in ["V", "_", "_9", "Box001", "größe", "长度", longest] {
-        assert!(rt; is_name_kept(rt.alloc(), text)?, "{text}");
-    }
-    let longer = "a23456789b123456789c123456789d123456789e123456789f123456789g12345";
-    for text in ["", "9a", "a b", "a.b", "-", "a-b", "é!", "$A", longer] {
-        assert!(rt; is_bad_name(rt.alloc(), text), "{text}");
-    }
-    Ok(())
-}
-
-fn is_label_kept(alloc: Global, text: &str) -> Result<bool, Fail> {
-    let label = Label::read(alloc, text)?;
-    Ok(label.copy(alloc)?.as_str() == text)
-}
-
-fn is_bad_label(alloc: Global, text: &str) -> bool {
-    matches!(Label::read(alloc, text), Err(LabelFault::BadLabel))
-}
-
-#[test]
-fn reads_labels(rt: HostRuntime) -> Result<(), Fail> {
-    for text in ["Body", "My box", "<<", "a>b", ">a", "größe", "a\u{7f}"] {
-        assert!(rt; is_label_kept(rt.alloc(), text)?, "{text}");
-    }
-    for text in ["", ">", "a>", "a>>b", ">>a", "a\tb", "a\n"] {
-        assert!(rt; is_bad_label(rt.alloc(), text), "{text}");
+fn reads_names_labels_and_values(rt: HostRuntime) -> Result<(), Fail> {
+    for (kind, text, want) in &READ {
+        assert!(rt; keeps(rt.alloc(), kind, text)? == *want, "{text}");
     }
     Ok(())
 }
 
 /// What is found under a label, where the label `My box` has 7.
-fn found_under(alloc: Global, text: &str) -> Result<Option<u32>, Fail> {
+fn found_under(alloc: Global, label: &Label) -> Result<Option<u32>, Fail> {
     let mut numbers = HashMap::new(alloc);
     numbers.insert(Label::read(alloc, "My box")?, 7u32)?;
+    Ok(numbers.get(label).copied())
+}
+
+/// Whether this is found under the label of a text.
+fn finds(alloc: Global, text: &str, want: Option<u32>) -> Result<bool, Fail> {
     let label = Label::read(alloc, text)?;
-    Ok(numbers.get(&label).copied())
+    Ok(found_under(alloc, &label)? == want)
 }
 
 #[test]
 fn is_looked_up_by_an_equal_label(rt: HostRuntime) -> Result<(), Fail> {
-    assert!(rt; found_under(rt.alloc(), "My box")? == Some(7));
-    assert!(rt; found_under(rt.alloc(), "my box")?.is_none());
-    Ok(())
-}
-
-fn is_text_kept(alloc: Global, text: &str) -> Result<bool, Fail> {
-    let value = TextValue::read(alloc, text)?;
-    Ok(value.copy(alloc)?.as_str() == text)
-}
-
-fn is_bad_text(alloc: Global, text: &str) -> bool {
-    matches!(TextValue::read(alloc, text), Err(TextFault::BadText))
-}
-
-#[test]
-fn reads_text_values(rt: HostRuntime) -> Result<(), Fail> {
-    for text in ["", "a>>b", "tab\tand\r\nlines", "größe", "\u{7f}"] {
-        assert!(rt; is_text_kept(rt.alloc(), text)?, "{text}");
-    }
-    for text in ["\u{0}", "a\u{1b}b", "\u{b}"] {
-        assert!(rt; is_bad_text(rt.alloc(), text));
-    }
+    assert!(rt; finds(rt.alloc(), "My box", Some(7))?);
+    assert!(rt; finds(rt.alloc(), "my box", None)?);
     Ok(())
 }
 
@@ -96,33 +157,46 @@ fn letters(alloc: Global, count: u32, end: &str) -> Result<String, AllocError> {
     Ok(text)
 }
 
-fn is_label_of(alloc: Global, count: u32) -> Result<bool, AllocError> {
-    let text = letters(alloc, count, "")?;
-    Ok(Label::is_label(text.as_str()))
+/// Whether a text is too long for a text value.
+fn is_too_long(alloc: Global, text: &str) -> bool {
+    matches!(TextValue::read(alloc, text), Err(TextFault::TooLong))
 }
 
-fn is_too_long_text(alloc: Global, count: u32, end: &str) -> Result<bool, AllocError> {
+/// Whether so many letters and an end are a label, or are not too long for a text value.
+fn is_short(alloc: Global, kind: &Kind, count: u32, end: &str) -> Result<bool, AllocError> {
     let text = letters(alloc, count, end)?;
-    Ok(matches!(
-        TextValue::read(alloc, text.as_str()),
-        Err(TextFault::TooLong)
-    ))
+    Ok(match kind {
+        Kind::Label => Label::is_label(text.as_str()),
+        _ => !is_too_long(alloc, text.as_str()),
+    })
 }
+
+/// What texts are read as, how many letters stand in them, what stands behind these, and whether
+/// they are short enough.
+static LENGTHS: [(Kind, u32, &str, bool); 5] = [
+    (Kind::Label, 1, "", true),
+    (Kind::Label, 255, "", true),
+    (Kind::Label, 256, "", false),
+    (Kind::Value, 1024, "", true),
+    (Kind::Value, 1024, "\u{1}", false),
+];
 
 #[test]
 fn counts_bytes(rt: HostRuntime) -> Result<(), Fail> {
-    assert!(rt; is_label_of(rt.alloc(), 1)?);
-    assert!(rt; is_label_of(rt.alloc(), 255)?);
-    assert!(rt; !is_label_of(rt.alloc(), 256)?);
-    assert!(rt; !is_too_long_text(rt.alloc(), 1024, "")?);
-    assert!(rt; is_too_long_text(rt.alloc(), 1024, "\u{1}")?);
+    for (kind, count, end, want) in &LENGTHS {
+        assert!(rt; is_short(rt.alloc(), kind, *count, end)? == *want);
+    }
     Ok(())
+}
+
+/// Whether the copy of kept bytes is these bytes.
+fn are_bytes_kept(alloc: Global, bytes: &[u8]) -> Result<bool, AllocError> {
+    let kept = SourceBytes::of(alloc, bytes)?;
+    Ok(kept.copy(alloc)?.bytes() == bytes)
 }
 
 #[test]
 fn keeps_bytes(rt: HostRuntime) -> Result<(), Fail> {
-    let kept = SourceBytes::of(rt.alloc(), b"<a b=\"1\"/>")?;
-    let copy = kept.copy(rt.alloc())?;
-    assert!(rt; copy.bytes() == b"<a b=\"1\"/>".as_slice());
+    assert!(rt; are_bytes_kept(rt.alloc(), b"<a b=\"1\"/>")?);
     Ok(())
 }

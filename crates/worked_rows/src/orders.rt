@@ -59,15 +59,41 @@ fn chain(alloc: Global, count: u32) -> Result<Vec<Vec<u32>>, AllocError> {
     Ok(nodes)
 }
 
+/// An order of what are nodes, if they have one.
+fn order_of(alloc: Global, nodes: &[Vec<u32>]) -> Result<Option<Vec<u32>>, Fail> {
+    if !are_nodes(nodes) {
+        return Err(Fail::new("no nodes"));
+    }
+    Ok(in_order(alloc, nodes)?)
+}
+
+/// Whether the order of nodes has so many, and begins with the last.
+fn is_ordered_from_its_end(alloc: Global, nodes: &[Vec<u32>], count: u32) -> Result<bool, Fail> {
+    let order = order_of(alloc, nodes)?.ok_or("no order")?;
+    Ok(order.len() == count as usize && order.iter().rev().copied().eq(0..count))
+}
+
+/// Whether a node reaches itself.
+fn is_cyclic(alloc: Global, nodes: &[Vec<u32>], node: usize) -> Result<bool, Fail> {
+    if node >= nodes.len() || !are_nodes(nodes) {
+        return Err(Fail::new("no node"));
+    }
+    Ok(reaches_itself(alloc, nodes, node as u32)?)
+}
+
+/// Whether a chain of so many nodes is ordered from its end, and its first node is on no cycle.
+fn is_long_chain(alloc: Global, count: u32) -> Result<bool, Fail> {
+    let nodes = chain(alloc, count)?;
+    Ok(
+        nodes.len() == count as usize
+            && is_ordered_from_its_end(alloc, &nodes, count)?
+            && !is_cyclic(alloc, &nodes, 0)?,
+    )
+}
+
 #[test]
 fn a_long_chain_is_ordered_from_its_end(rt: HostRuntime) -> Result<(), Fail> {
-    let nodes = chain(rt.alloc(), 70_000)?;
-    assert_eq!(rt; nodes.len(), 70_000);
-    assert!(rt; are_nodes(&nodes));
-    let order = in_order(rt.alloc(), &nodes)?.ok_or("no order")?;
-    assert_eq!(rt; order.len(), 70_000);
-    assert!(rt; order.iter().rev().copied().eq(0..70_000));
-    assert!(rt; !reaches_itself(rt.alloc(), &nodes, 0)?);
+    assert!(rt; is_long_chain(rt.alloc(), 70_000)?);
     Ok(())
 }
 
@@ -78,13 +104,22 @@ static ORDERS: [(&[&[u32]], &[u32]); 3] = [
     (&[], &[]),
 ];
 
+/// Whether this is the order of nodes.
+fn has_order(alloc: Global, nodes: &[Vec<u32>], want: &[u32]) -> Result<bool, Fail> {
+    let order = order_of(alloc, nodes)?.ok_or("no order")?;
+    Ok(order.as_slice() == want)
+}
+
+/// Whether this is the order of the nodes that read these.
+fn is_ordered_so(alloc: Global, inputs: &[&[u32]], want: &[u32]) -> Result<bool, Fail> {
+    let nodes = nodes_of(alloc, inputs)?;
+    has_order(alloc, &nodes, want)
+}
+
 #[test]
 fn inputs_stand_before_what_reads_them(rt: HostRuntime) -> Result<(), Fail> {
     for (inputs, want) in ORDERS.iter() {
-        let nodes = nodes_of(rt.alloc(), inputs)?;
-        assert!(rt; are_nodes(&nodes));
-        let order = in_order(rt.alloc(), &nodes)?.ok_or("no order")?;
-        assert!(rt; order.as_slice() == *want);
+        assert!(rt; is_ordered_so(rt.alloc(), inputs, want)?);
     }
     Ok(())
 }
@@ -97,16 +132,26 @@ static CYCLES: [(&[&[u32]], &[bool]); 4] = [
     (&[&[1, 3], &[2], &[1, 3], &[]], &[false, true, true, false]),
 ];
 
+/// Whether nodes have no order, and just these are on cycles.
+fn are_cyclic(alloc: Global, nodes: &[Vec<u32>], want: &[bool]) -> Result<bool, Fail> {
+    for node in 0..want.len() {
+        if is_cyclic(alloc, nodes, node)? != want[node] {
+            return Ok(false);
+        }
+    }
+    Ok(want.len() == nodes.len() && order_of(alloc, nodes)?.is_none())
+}
+
+/// Whether of the nodes that read these, just these are on cycles.
+fn has_cycles(alloc: Global, inputs: &[&[u32]], want: &[bool]) -> Result<bool, Fail> {
+    let nodes = nodes_of(alloc, inputs)?;
+    are_cyclic(alloc, &nodes, want)
+}
+
 #[test]
 fn cycles_are_found(rt: HostRuntime) -> Result<(), Fail> {
     for (inputs, cyclic) in CYCLES.iter() {
-        let nodes = nodes_of(rt.alloc(), inputs)?;
-        assert!(rt; are_nodes(&nodes));
-        assert!(rt; in_order(rt.alloc(), &nodes)?.is_none());
-        for node in 0..nodes.len() as u32 {
-            let found = reaches_itself(rt.alloc(), &nodes, node)?;
-            assert!(rt; cyclic.get(node as usize) == Some(&found));
-        }
+        assert!(rt; has_cycles(rt.alloc(), inputs, cyclic)?);
     }
     Ok(())
 }

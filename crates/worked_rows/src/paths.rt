@@ -2,7 +2,7 @@
 
 use fc_base::{Address, Name};
 use object_paths::{Path, PathFault, SlotName, slot_path};
-use std::alloc::Global;
+use std::alloc::{AllocError, Global};
 use std::test::Fail;
 
 /// Texts of paths, and how the paths are written.
@@ -17,10 +17,15 @@ static WRITTEN: [(&str, &str); 7] = [
 ];
 
 /// Whether the copy of a path is written so.
-fn is_written(alloc: Global, text: &str, want: &str) -> Result<bool, Fail> {
-    let path = Path::read(alloc, text)?;
+fn is_copy_written(alloc: Global, path: &Path, want: &str) -> Result<bool, AllocError> {
     let copy = path.copy(alloc)?;
     Ok(copy.write(alloc)?.as_str() == want)
+}
+
+/// Whether the copy of the path of a text is written so.
+fn is_written(alloc: Global, text: &str, want: &str) -> Result<bool, Fail> {
+    let path = Path::read(alloc, text)?;
+    Ok(is_copy_written(alloc, &path, want)?)
 }
 
 #[test]
@@ -51,18 +56,22 @@ fn refuses_what_is_no_path(rt: HostRuntime) {
     }
 }
 
+/// Whether a slot of V is written so.
+fn is_slot_written(alloc: Global, slot: &SlotName, want: &str) -> Result<bool, Fail> {
+    let object = Name::read(alloc, "V")?;
+    Ok(slot_path(alloc, &object, slot)?.as_str() == want)
+}
+
 /// Whether the slot of V that a path names is written so.
 fn is_written_outside(alloc: Global, text: &str, want: &str) -> Result<bool, Fail> {
-    let object = Name::read(alloc, "V")?;
     let path = Path::read(alloc, text)?;
-    Ok(slot_path(alloc, &object, &path.slot)?.as_str() == want)
+    is_slot_written(alloc, &path.slot, want)
 }
 
 /// Whether a cell of V without marks is written so.
 fn is_cell_written(alloc: Global, text: &str, want: &str) -> Result<bool, Fail> {
-    let object = Name::read(alloc, "V")?;
     let cell = Address::read(text).ok_or("no address")?;
-    Ok(slot_path(alloc, &object, &SlotName::Marked(cell))?.as_str() == want)
+    is_slot_written(alloc, &SlotName::Marked(cell), want)
 }
 
 #[test]

@@ -3,7 +3,8 @@
 use arrayvec::ArrayString;
 use fc_base::{Name, TextValue};
 use property_types::{
-    FitFault, InputPlan, OutputPlan, PropType, SlotPlan, Sort, Value, ValueFault, copy_outcome,
+    FitFault, InputPlan, Outcome, OutputPlan, PropType, SlotPlan, Sort, Value, ValueFault,
+    copy_outcome,
 };
 use quantities::{Amount, Quantity};
 use std::alloc::{AllocError, Global};
@@ -89,12 +90,25 @@ fn fitted(alloc: Global, prop: &PropType, value: &Value) -> Result<Result<i128, 
     }
 }
 
+/// What a number is fitted to.
+fn number_fitted(
+    alloc: Global,
+    name: &str,
+    raw: i128,
+    unit: &str,
+) -> Result<Result<i128, ValueFault>, Fail> {
+    let prop = type_of(name)?;
+    let value = number(raw, unit)?;
+    fitted(alloc, &prop, &value)
+}
+
 #[test]
 fn fits_numbers(rt: HostRuntime) -> Result<(), Fail> {
     for (name, raw, unit, want) in &FITS {
-        let value = number(*raw, unit)?;
-        let given = fitted(rt.alloc(), &type_of(name)?, &value)?;
-        assert!(rt; given == *want, "{name} {raw}");
+        assert!(rt;
+            number_fitted(rt.alloc(), name, *raw, unit)? == *want,
+            "{name} {raw}"
+        );
     }
     Ok(())
 }
@@ -110,11 +124,23 @@ fn is_taken_as_it_is(alloc: Global, prop: &PropType, value: &Value) -> Result<bo
     }
 }
 
+fn text_value(alloc: Global, text: &str) -> Result<Value, Fail> {
+    Ok(Value::Text(TextValue::read(alloc, text)?))
+}
+
+fn is_text_taken(alloc: Global, text: &str) -> Result<bool, Fail> {
+    let value = text_value(alloc, text)?;
+    is_taken_as_it_is(alloc, &PropType::String, &value)
+}
+
+fn is_flag_taken(alloc: Global, flag: bool) -> Result<bool, Fail> {
+    is_taken_as_it_is(alloc, &PropType::Bool, &Value::Flag(flag))
+}
+
 #[test]
 fn fits_texts_and_flags(rt: HostRuntime) -> Result<(), Fail> {
-    let text = Value::Text(TextValue::read(rt.alloc(), "a text")?);
-    assert!(rt; is_taken_as_it_is(rt.alloc(), &PropType::String, &text)?);
-    assert!(rt; is_taken_as_it_is(rt.alloc(), &PropType::Bool, &Value::Flag(true))?);
+    assert!(rt; is_text_taken(rt.alloc(), "a text")?);
+    assert!(rt; is_flag_taken(rt.alloc(), true)?);
     Ok(())
 }
 
@@ -149,48 +175,85 @@ fn is_zero(alloc: Global, prop: &PropType, want: &Value) -> Result<bool, AllocEr
     Ok(zero == *want)
 }
 
+/// Whether the zero of a type is that text.
+fn is_zero_text(alloc: Global, prop: &PropType, text: &str) -> Result<bool, Fail> {
+    let value = text_value(alloc, text)?;
+    Ok(is_zero(alloc, prop, &value)?)
+}
+
+/// Whether the zero of a type is that number.
+fn is_zero_number(alloc: Global, prop: &PropType, raw: i128, unit: &str) -> Result<bool, Fail> {
+    let value = number(raw, unit)?;
+    Ok(is_zero(alloc, prop, &value)?)
+}
+
 #[test]
 fn gives_zeros(rt: HostRuntime) -> Result<(), Fail> {
-    let empty = Value::Text(TextValue::read(rt.alloc(), "")?);
-    assert!(rt; is_zero(rt.alloc(), &PropType::String, &empty)?);
+    assert!(rt; is_zero_text(rt.alloc(), &PropType::String, "")?);
     assert!(rt; is_zero(rt.alloc(), &PropType::Bool, &Value::Flag(false))?);
-    assert!(rt; is_zero(rt.alloc(), &PropType::Length, &number(0, "mm")?)?);
+    assert!(rt; is_zero_number(rt.alloc(), &PropType::Length, 0, "mm")?);
     Ok(())
 }
 
-/// A plan with a Length that is 100 mm and gives an Area.
-fn frame(alloc: Global) -> Result<SlotPlan, Fail> {
-    let mut inputs = Vec::new(alloc);
-    inputs.push(InputPlan {
+/// The input Width, a Length that is 100 mm.
+fn width(alloc: Global) -> Result<InputPlan, Fail> {
+    let default = number(100_000_000_000, "mm")?;
+    Ok(InputPlan {
         name: Name::read(alloc, "Width")?,
         prop: PropType::Length,
-        default: number(100_000_000_000, "mm")?,
-    })?;
-    let mut outputs = Vec::new(alloc);
-    outputs.push(OutputPlan {
+        default,
+    })
+}
+
+/// The output Opening, an Area.
+fn opening(alloc: Global) -> Result<OutputPlan, Fail> {
+    Ok(OutputPlan {
         name: Name::read(alloc, "Opening")?,
         prop: PropType::Area,
-    })?;
+    })
+}
+
+/// A plan without inputs and outputs.
+fn empty_frame(alloc: Global) -> Result<SlotPlan, Fail> {
     Ok(SlotPlan {
         type_name: TextValue::read(alloc, "Fc::Frame")?,
-        inputs,
-        outputs,
+        inputs: Vec::new(alloc),
+        outputs: Vec::new(alloc),
         placed: false,
         members: false,
     })
 }
 
+/// A plan with a Length that is 100 mm and gives an Area.
+fn frame(alloc: Global) -> Result<SlotPlan, Fail> {
+    let mut plan = empty_frame(alloc)?;
+    plan.inputs.push(width(alloc)?)?;
+    plan.outputs.push(opening(alloc)?)?;
+    Ok(plan)
+}
+
+/// Whether the copy of a plan has this name, an input and an output.
+fn is_plan_copied(alloc: Global, plan: &SlotPlan, name: &str) -> Result<bool, AllocError> {
+    let copy = plan.copy(alloc)?;
+    Ok(copy.type_name.as_str() == name && copy.inputs.len() == 1 && copy.outputs.len() == 1)
+}
+
 #[test]
 fn copies_plans(rt: HostRuntime) -> Result<(), Fail> {
-    let copy = frame(rt.alloc())?.copy(rt.alloc())?;
-    assert!(rt; copy.type_name.as_str() == "Fc::Frame");
-    assert!(rt; copy.inputs.len() == 1 && copy.outputs.len() == 1);
+    let plan = frame(rt.alloc())?;
+    let copied = is_plan_copied(rt.alloc(), &plan, "Fc::Frame")?;
+    assert!(rt; copied);
     Ok(())
+}
+
+fn is_outcome_copied(alloc: Global, outcome: &Outcome) -> Result<bool, AllocError> {
+    Ok(copy_outcome(alloc, outcome)? == *outcome)
 }
 
 #[test]
 fn copies_texts(rt: HostRuntime) -> Result<(), Fail> {
-    let outcome = Ok(Value::Text(TextValue::read(rt.alloc(), "a text")?));
-    assert!(rt; copy_outcome(rt.alloc(), &outcome)? == outcome);
+    let outcome = Ok(text_value(rt.alloc(), "a text")?);
+    let copied = is_outcome_copied(rt.alloc(), &outcome)?;
+    assert!(rt; copied);
     Ok(())
 }

@@ -91,26 +91,40 @@ fn quotient_is(left: &str, right: &str, text: &str) -> bool {
     }
 }
 
+/// Units, exponents of powers, and the texts of these, if they have one.
+static POWERS: [(&str, i8, Option<&str>); 2] = [("l", 2, Some("mm^6")), ("l", -3, None)];
+
+fn power_is(name: &str, exponent: i8, want: Option<&str>) -> bool {
+    let Some((_, unit)) = unit_named(name) else {
+        return false;
+    };
+    match (unit.power(exponent), want) {
+        (Ok(power), Some(text)) => is_written_as(&power, text),
+        (Err(ExponentRange), None) => true,
+        _ => false,
+    }
+}
+
+/// Whether a unit can be multiplied by itself once and not twice.
+fn has_square_alone(name: &str) -> bool {
+    let Some((_, unit)) = unit_named(name) else {
+        return false;
+    };
+    match unit.times(&unit) {
+        Ok(square) => square.times(&unit).is_err(),
+        Err(ExponentRange) => false,
+    }
+}
+
 #[test]
 fn units_are_multiplied(rt: HostRuntime) {
     for (left, right, text) in QUOTIENTS.iter() {
         assert!(rt; quotient_is(left, right, text));
     }
-    let Some((_, volume)) = unit_named("l") else {
-        assert!(rt; false);
-        return;
-    };
-    assert!(rt;
-        volume
-            .power(2)
-            .is_ok_and(|unit| is_written_as(&unit, "mm^6"))
-    );
-    assert!(rt; volume.power(-3).is_err());
-    assert!(rt;
-        volume
-            .times(&volume)
-            .is_ok_and(|unit| unit.times(&volume).is_err())
-    );
+    for (name, exponent, want) in POWERS.iter() {
+        assert!(rt; power_is(name, *exponent, *want));
+    }
+    assert!(rt; has_square_alone("l"));
 }
 
 /// Two units, and the text of their product.
