@@ -86,11 +86,18 @@ fn is_inside(from: &str, to: &str, cell: &str) -> Option<bool> {
     Some(area.contains(&cell.unmarked()))
 }
 
+/// Two corners, a cell, and whether it is in their area, if they are in order.
+static INSIDE: [(&str, &str, &str, Option<bool>); 5] = [
+    ("A1", "B3", "B2", Some(true)),
+    ("A1", "B3", "$A$3", Some(true)),
+    ("A1", "B3", "C1", Some(false)),
+    ("B1", "A3", "A1", None),
+    ("A3", "B1", "A1", None),
+];
+
 #[test]
 fn keeps_corners_in_order(rt: HostRuntime) {
-    assert!(rt; is_inside("A1", "B3", "B2") == Some(true));
-    assert!(rt; is_inside("A1", "B3", "$A$3") == Some(true));
-    assert!(rt; is_inside("A1", "B3", "C1") == Some(false));
-    assert!(rt; is_inside("B1", "A3", "A1").is_none());
-    assert!(rt; is_inside("A3", "B1", "A1").is_none());
+    for (from, to, cell, want) in &INSIDE {
+        assert!(rt; is_inside(from, to, cell) == *want);
+    }
 }

@@ -60,11 +60,16 @@ fn failing_store(alloc: Global) -> Result<MemoryStore, AllocError> {
     Ok(store)
 }
 
+fn answered_by_memory(alloc: Global) -> usize {
+    match failing_store(alloc) {
+        Ok(mut store) => answered(alloc, &mut store, &MEMORY_CALLS),
+        Err(_) => 0,
+    }
+}
+
 #[test]
-fn memory_store_fails_at_its_calls(rt: HostRuntime) -> Result<(), Fail> {
-    let mut store = failing_store(rt.alloc())?;
-    assert!(rt; answered(rt.alloc(), &mut store, &MEMORY_CALLS) == 10);
-    Ok(())
+fn memory_store_fails_at_its_calls(rt: HostRuntime) {
+    assert!(rt; answered_by_memory(rt.alloc()) == 10);
 }
 
 /// Bytes, and how many of them a sink takes that takes two at once and fails at its third call.

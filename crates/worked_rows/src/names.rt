@@ -5,52 +5,70 @@ use std::alloc::{AllocError, Global};
 use std::collections::HashMap;
 use std::test::Fail;
 
-fn is_copied(alloc: Global, name: &Name, text: &str) -> Result<bool, AllocError> {
-    Ok(name.copy(alloc)?.as_str() == text)
+fn is_copied(alloc: Global, name: &Name, text: &str) -> bool {
+    match name.copy(alloc) {
+        Ok(copy) => copy.as_str() == text,
+        Err(_) => false,
+    }
 }
 
-fn has_label(alloc: Global, name: &Name, text: &str) -> Result<bool, AllocError> {
-    Ok(name.to_label(alloc)?.as_str() == text)
+fn has_label(alloc: Global, name: &Name, text: &str) -> bool {
+    match name.to_label(alloc) {
+        Ok(label) => label.as_str() == text,
+        Err(_) => false,
+    }
 }
 
-fn has_value(alloc: Global, name: &Name, text: &str) -> Result<bool, AllocError> {
-    Ok(name.to_text_value(alloc)?.as_str() == text)
+fn has_value(alloc: Global, name: &Name, text: &str) -> bool {
+    match name.to_text_value(alloc) {
+        Ok(value) => value.as_str() == text,
+        Err(_) => false,
+    }
 }
 
 /// Whether the copy, the label and the text of a name are this text.
-fn is_told(alloc: Global, name: &Name, text: &str) -> Result<bool, AllocError> {
-    Ok(
-        is_copied(alloc, name, text)?
-            && has_label(alloc, name, text)?
-            && has_value(alloc, name, text)?,
-    )
+fn is_told(alloc: Global, name: &Name, text: &str) -> bool {
+    is_copied(alloc, name, text) && has_label(alloc, name, text) && has_value(alloc, name, text)
 }
 
 /// Whether a name keeps its text; nothing where the text is no name.
-fn name_keeps(alloc: Global, text: &str) -> Result<Option<bool>, AllocError> {
+fn name_keeps(alloc: Global, text: &str) -> Option<bool> {
     match Name::read(alloc, text) {
-        Ok(name) => Ok(Some(is_told(alloc, &name, text)?)),
-        Err(NameFault::BadName) => Ok(None),
-        Err(NameFault::Memory(error)) => Err(error),
+        Ok(name) => Some(is_told(alloc, &name, text)),
+        Err(NameFault::BadName) => None,
+        Err(NameFault::Memory(_)) => Some(false),
+    }
+}
+
+fn is_label_copied(alloc: Global, label: &Label, text: &str) -> bool {
+    match label.copy(alloc) {
+        Ok(copy) => copy.as_str() == text,
+        Err(_) => false,
     }
 }
 
 /// Whether the copy of a label keeps its text; nothing where the text is no label.
-fn label_keeps(alloc: Global, text: &str) -> Result<Option<bool>, AllocError> {
+fn label_keeps(alloc: Global, text: &str) -> Option<bool> {
     match Label::read(alloc, text) {
-        Ok(label) => Ok(Some(label.copy(alloc)?.as_str() == text)),
-        Err(LabelFault::BadLabel) => Ok(None),
-        Err(LabelFault::Memory(error)) => Err(error),
+        Ok(label) => Some(is_label_copied(alloc, &label, text)),
+        Err(LabelFault::BadLabel) => None,
+        Err(LabelFault::Memory(_)) => Some(false),
+    }
+}
+
+fn is_value_copied(alloc: Global, value: &TextValue, text: &str) -> bool {
+    match value.copy(alloc) {
+        Ok(copy) => copy.as_str() == text,
+        Err(_) => false,
     }
 }
 
 /// Whether the copy of a text value keeps its text; nothing where the text has a bad character.
-fn value_keeps(alloc: Global, text: &str) -> Result<Option<bool>, AllocError> {
+fn value_keeps(alloc: Global, text: &str) -> Option<bool> {
     match TextValue::read(alloc, text) {
-        Ok(value) => Ok(Some(value.copy(alloc)?.as_str() == text)),
-        Err(TextFault::BadText) => Ok(None),
-        Err(TextFault::TooLong) => Ok(Some(false)),
-        Err(TextFault::Memory(error)) => Err(error),
+        Ok(value) => Some(is_value_copied(alloc, &value, text)),
+        Err(TextFault::BadText) => None,
+        Err(_) => Some(false),
     }
 }
 
@@ -111,7 +129,7 @@ static READ: [(Kind, &str, Option<bool>); 38] = [
     (Kind::Value, "\u{b}", None),
 ];
 
-fn keeps(alloc: Global, kind: &Kind, text: &str) -> Result<Option<bool>, AllocError> {
+fn keeps(alloc: Global, kind: &Kind, text: &str) -> Option<bool> {
     match kind {
         Kind::Name => name_keeps(alloc, text),
         Kind::Label => label_keeps(alloc, text),
@@ -120,11 +138,10 @@ fn keeps(alloc: Global, kind: &Kind, text: &str) -> Result<Option<bool>, AllocEr
 }
 
 #[test]
-fn reads_names_labels_and_values(rt: HostRuntime) -> Result<(), Fail> {
+fn reads_names_labels_and_values(rt: HostRuntime) {
     for (kind, text, want) in &READ {
-        assert!(rt; keeps(rt.alloc(), kind, text)? == *want, "{text}");
+        assert!(rt; keeps(rt.alloc(), kind, text) == *want, "{text}");
     }
-    Ok(())
 }
 
 /// What is found under a label, where the label `My box` has 7.
@@ -142,8 +159,8 @@ fn finds(alloc: Global, text: &str, want: Option<u32>) -> Result<bool, Fail> {
 
 #[test]
 fn is_looked_up_by_an_equal_label(rt: HostRuntime) -> Result<(), Fail> {
-    assert!(rt; finds(rt.alloc(), "My box", Some(7))?);
-    assert!(rt; finds(rt.alloc(), "my box", None)?);
+    let found = finds(rt.alloc(), "My box", Some(7))? && finds(rt.alloc(), "my box", None)?;
+    assert!(rt; found);
     Ok(())
 }
 
@@ -162,10 +179,13 @@ fn is_too_long(alloc: Global, text: &str) -> bool {
     matches!(TextValue::read(alloc, text), Err(TextFault::TooLong))
 }
 
-/// Whether so many letters and an end are a label, or are not too long for a text value.
-fn is_short(alloc: Global, kind: &Kind, count: u32, end: &str) -> Result<bool, AllocError> {
-    let text = letters(alloc, count, end)?;
-    Ok(match kind {
+/// Whether so many letters and an end are a label, or are not too long for a text value; nothing
+/// where memory ends.
+fn is_short(alloc: Global, kind: &Kind, count: u32, end: &str) -> Option<bool> {
+    let Ok(text) = letters(alloc, count, end) else {
+        return None;
+    };
+    Some(match kind {
         Kind::Label => Label::is_label(text.as_str()),
         _ => !is_too_long(alloc, text.as_str()),
     })
@@ -182,21 +202,28 @@ static LENGTHS: [(Kind, u32, &str, bool); 5] = [
 ];
 
 #[test]
-fn counts_bytes(rt: HostRuntime) -> Result<(), Fail> {
+fn counts_bytes(rt: HostRuntime) {
     for (kind, count, end, want) in &LENGTHS {
-        assert!(rt; is_short(rt.alloc(), kind, *count, end)? == *want);
+        assert!(rt; is_short(rt.alloc(), kind, *count, end) == Some(*want));
     }
-    Ok(())
 }
 
 /// Whether the copy of kept bytes is these bytes.
-fn are_bytes_kept(alloc: Global, bytes: &[u8]) -> Result<bool, AllocError> {
-    let kept = SourceBytes::of(alloc, bytes)?;
-    Ok(kept.copy(alloc)?.bytes() == bytes)
+fn are_bytes_copied(alloc: Global, kept: &SourceBytes, bytes: &[u8]) -> bool {
+    match kept.copy(alloc) {
+        Ok(copy) => copy.bytes() == bytes,
+        Err(_) => false,
+    }
+}
+
+fn are_bytes_kept(alloc: Global, bytes: &[u8]) -> bool {
+    match SourceBytes::of(alloc, bytes) {
+        Ok(kept) => are_bytes_copied(alloc, &kept, bytes),
+        Err(_) => false,
+    }
 }
 
 #[test]
-fn keeps_bytes(rt: HostRuntime) -> Result<(), Fail> {
-    assert!(rt; are_bytes_kept(rt.alloc(), b"<a b=\"1\"/>")?);
-    Ok(())
+fn keeps_bytes(rt: HostRuntime) {
+    assert!(rt; are_bytes_kept(rt.alloc(), b"<a b=\"1\"/>"));
 }

@@ -5,7 +5,6 @@ ghost use Rattle.dependency_order.specs.Nodes.{inputs_of, AreNodes};
 
 use dependency_order::{in_order, reaches_itself};
 use std::alloc::{AllocError, Global};
-use std::test::Fail;
 
 /// What a node reads.
 #[tactic(auto, using(dependency_order::proofs::NodeLemmas::inputs_of_read))]
@@ -59,42 +58,41 @@ fn chain(alloc: Global, count: u32) -> Result<Vec<Vec<u32>>, AllocError> {
     Ok(nodes)
 }
 
-/// An order of what are nodes, if they have one.
-fn order_of(alloc: Global, nodes: &[Vec<u32>]) -> Result<Option<Vec<u32>>, Fail> {
-    if !are_nodes(nodes) {
-        return Err(Fail::new("no nodes"));
-    }
-    Ok(in_order(alloc, nodes)?)
-}
-
 /// Whether the order of nodes has so many, and begins with the last.
-fn is_ordered_from_its_end(alloc: Global, nodes: &[Vec<u32>], count: u32) -> Result<bool, Fail> {
-    let order = order_of(alloc, nodes)?.ok_or("no order")?;
-    Ok(order.len() == count as usize && order.iter().rev().copied().eq(0..count))
+fn is_ordered_from_its_end(alloc: Global, nodes: &[Vec<u32>], count: u32) -> bool {
+    if !are_nodes(nodes) {
+        return false;
+    }
+    match in_order(alloc, nodes) {
+        Ok(Some(order)) => order.len() == count as usize
+            && order.iter().rev().copied().eq(0..count),
+        _ => false,
+    }
 }
 
-/// Whether a node reaches itself.
-fn is_cyclic(alloc: Global, nodes: &[Vec<u32>], node: usize) -> Result<bool, Fail> {
+/// Whether it is so that a node reaches itself.
+fn is_cyclic(alloc: Global, nodes: &[Vec<u32>], node: usize, want: bool) -> bool {
     if node >= nodes.len() || !are_nodes(nodes) {
-        return Err(Fail::new("no node"));
+        return false;
     }
-    Ok(reaches_itself(alloc, nodes, node as u32)?)
+    matches!(reaches_itself(alloc, nodes, node as u32), Ok(found) if found == want)
 }
 
 /// Whether a chain of so many nodes is ordered from its end, and its first node is on no cycle.
-fn is_long_chain(alloc: Global, count: u32) -> Result<bool, Fail> {
-    let nodes = chain(alloc, count)?;
-    Ok(
-        nodes.len() == count as usize
-            && is_ordered_from_its_end(alloc, &nodes, count)?
-            && !is_cyclic(alloc, &nodes, 0)?,
-    )
+fn is_long_chain(alloc: Global, count: u32) -> bool {
+    match chain(alloc, count) {
+        Ok(nodes) => {
+            nodes.len() == count as usize
+                && is_ordered_from_its_end(alloc, &nodes, count)
+                && is_cyclic(alloc, &nodes, 0, false)
+        }
+        Err(_) => false,
+    }
 }
 
 #[test]
-fn a_long_chain_is_ordered_from_its_end(rt: HostRuntime) -> Result<(), Fail> {
-    assert!(rt; is_long_chain(rt.alloc(), 70_000)?);
-    Ok(())
+fn a_long_chain_is_ordered_from_its_end(rt: HostRuntime) {
+    assert!(rt; is_long_chain(rt.alloc(), 70_000));
 }
 
 /// What each node reads, and an order of the nodes.
@@ -104,24 +102,31 @@ static ORDERS: [(&[&[u32]], &[u32]); 3] = [
     (&[], &[]),
 ];
 
-/// Whether this is the order of nodes.
-fn has_order(alloc: Global, nodes: &[Vec<u32>], want: &[u32]) -> Result<bool, Fail> {
-    let order = order_of(alloc, nodes)?.ok_or("no order")?;
-    Ok(order.as_slice() == want)
+/// Whether this is the order of nodes, which have none where none is wanted.
+fn has_order(alloc: Global, nodes: &[Vec<u32>], want: Option<&[u32]>) -> bool {
+    if !are_nodes(nodes) {
+        return false;
+    }
+    match in_order(alloc, nodes) {
+        Ok(Some(order)) => want == Some(order.as_slice()),
+        Ok(None) => want.is_none(),
+        Err(_) => false,
+    }
 }
 
 /// Whether this is the order of the nodes that read these.
-fn is_ordered_so(alloc: Global, inputs: &[&[u32]], want: &[u32]) -> Result<bool, Fail> {
-    let nodes = nodes_of(alloc, inputs)?;
-    has_order(alloc, &nodes, want)
+fn is_ordered_so(alloc: Global, inputs: &[&[u32]], want: &[u32]) -> bool {
+    match nodes_of(alloc, inputs) {
+        Ok(nodes) => has_order(alloc, &nodes, Some(want)),
+        Err(_) => false,
+    }
 }
 
 #[test]
-fn inputs_stand_before_what_reads_them(rt: HostRuntime) -> Result<(), Fail> {
+fn inputs_stand_before_what_reads_them(rt: HostRuntime) {
     for (inputs, want) in ORDERS.iter() {
-        assert!(rt; is_ordered_so(rt.alloc(), inputs, want)?);
+        assert!(rt; is_ordered_so(rt.alloc(), inputs, want));
     }
-    Ok(())
 }
 
 /// What each node reads, and which nodes reach themselves.
@@ -132,26 +137,27 @@ static CYCLES: [(&[&[u32]], &[bool]); 4] = [
     (&[&[1, 3], &[2], &[1, 3], &[]], &[false, true, true, false]),
 ];
 
-/// Whether nodes have no order, and just these are on cycles.
-fn are_cyclic(alloc: Global, nodes: &[Vec<u32>], want: &[bool]) -> Result<bool, Fail> {
+/// Whether just these nodes are on cycles.
+fn are_cyclic(alloc: Global, nodes: &[Vec<u32>], want: &[bool]) -> bool {
     for node in 0..want.len() {
-        if is_cyclic(alloc, nodes, node)? != want[node] {
-            return Ok(false);
+        if !is_cyclic(alloc, nodes, node, want[node]) {
+            return false;
         }
     }
-    Ok(want.len() == nodes.len() && order_of(alloc, nodes)?.is_none())
+    want.len() == nodes.len()
 }
 
-/// Whether of the nodes that read these, just these are on cycles.
-fn has_cycles(alloc: Global, inputs: &[&[u32]], want: &[bool]) -> Result<bool, Fail> {
-    let nodes = nodes_of(alloc, inputs)?;
-    are_cyclic(alloc, &nodes, want)
+/// Whether the nodes that read these have no order, and just these of them are on cycles.
+fn has_cycles(alloc: Global, inputs: &[&[u32]], want: &[bool]) -> bool {
+    match nodes_of(alloc, inputs) {
+        Ok(nodes) => has_order(alloc, &nodes, None) && are_cyclic(alloc, &nodes, want),
+        Err(_) => false,
+    }
 }
 
 #[test]
-fn cycles_are_found(rt: HostRuntime) -> Result<(), Fail> {
+fn cycles_are_found(rt: HostRuntime) {
     for (inputs, cyclic) in CYCLES.iter() {
-        assert!(rt; has_cycles(rt.alloc(), inputs, cyclic)?);
+        assert!(rt; has_cycles(rt.alloc(), inputs, cyclic));
     }
-    Ok(())
 }

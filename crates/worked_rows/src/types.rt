@@ -7,7 +7,7 @@ use property_types::{
     copy_outcome,
 };
 use quantities::{Amount, Quantity};
-use std::alloc::{AllocError, Global};
+use std::alloc::Global;
 use std::test::Fail;
 use unit_signatures::{Unit, unit_named};
 
@@ -58,35 +58,37 @@ static UNITS: [(&str, &str); 11] = [
     ("App::PropertyDensity", "mm^-3*kg"),
 ];
 
-fn type_of(name: &str) -> Result<PropType, Fail> {
+fn type_of(name: &str) -> Option<PropType> {
     if name == "the turn" {
-        Ok(PropType::Turn)
+        Some(PropType::Turn)
     } else {
-        Ok(PropType::named(name).ok_or("no type")?)
+        PropType::named(name)
     }
 }
 
-fn number(raw: i128, unit: &str) -> Result<Value, Fail> {
-    let amount = Amount::of_raw(raw)?;
+fn number(raw: i128, unit: &str) -> Option<Value> {
+    let Ok(amount) = Amount::of_raw(raw) else {
+        return None;
+    };
     let unit = if unit.is_empty() {
         Unit::pure()
     } else {
-        unit_named(unit).ok_or("no unit")?.1
+        unit_named(unit)?.1
     };
-    Ok(Value::Number(Quantity { amount, unit }))
+    Some(Value::Number(Quantity { amount, unit }))
 }
 
-/// The billionths that a number is fitted to, and the fault; the unit has to be the type's.
-fn fitted(alloc: Global, prop: &PropType, value: &Value) -> Result<Result<i128, ValueFault>, Fail> {
+/// The billionths that a number is fitted to, or the fault; the unit has to be the type's.
+fn fitted(alloc: Global, prop: &PropType, value: &Value) -> Option<Result<i128, ValueFault>> {
     if *prop == PropType::Placement {
-        return Err(Fail::new("a placement"));
+        return None;
     }
     let given = prop.fit(alloc, value);
     match &given {
-        Ok(Value::Number(q)) if Sort::Number(q.unit) == prop.sort() => Ok(Ok(q.amount.raw())),
-        Ok(_) => Err(Fail::new("not in the type's unit")),
-        Err(FitFault::Fault(fault)) => Ok(Err(*fault)),
-        Err(FitFault::Memory(_)) => Err(Fail::new("out of memory")),
+        Ok(Value::Number(q)) if Sort::Number(q.unit) == prop.sort() => Some(Ok(q.amount.raw())),
+        Ok(_) => None,
+        Err(FitFault::Fault(fault)) => Some(Err(*fault)),
+        Err(FitFault::Memory(_)) => None,
     }
 }
 
@@ -96,108 +98,108 @@ fn number_fitted(
     name: &str,
     raw: i128,
     unit: &str,
-) -> Result<Result<i128, ValueFault>, Fail> {
+) -> Option<Result<i128, ValueFault>> {
     let prop = type_of(name)?;
     let value = number(raw, unit)?;
     fitted(alloc, &prop, &value)
 }
 
 #[test]
-fn fits_numbers(rt: HostRuntime) -> Result<(), Fail> {
+fn fits_numbers(rt: HostRuntime) {
     for (name, raw, unit, want) in &FITS {
         assert!(rt;
-            number_fitted(rt.alloc(), name, *raw, unit)? == *want,
+            number_fitted(rt.alloc(), name, *raw, unit) == Some(*want),
             "{name} {raw}"
         );
     }
-    Ok(())
 }
 
 /// Whether a type takes a value as it is.
-fn is_taken_as_it_is(alloc: Global, prop: &PropType, value: &Value) -> Result<bool, Fail> {
+fn is_taken_as_it_is(alloc: Global, prop: &PropType, value: &Value) -> bool {
     if *prop == PropType::Placement {
-        return Err(Fail::new("a placement"));
+        return false;
     }
     match prop.fit(alloc, value) {
-        Ok(fitted) => Ok(fitted == *value),
-        Err(_) => Err(Fail::new("not fitted")),
+        Ok(fitted) => fitted == *value,
+        Err(_) => false,
     }
 }
 
-fn text_value(alloc: Global, text: &str) -> Result<Value, Fail> {
-    Ok(Value::Text(TextValue::read(alloc, text)?))
-}
-
-fn is_text_taken(alloc: Global, text: &str) -> Result<bool, Fail> {
-    let value = text_value(alloc, text)?;
-    is_taken_as_it_is(alloc, &PropType::String, &value)
-}
-
-fn is_flag_taken(alloc: Global, flag: bool) -> Result<bool, Fail> {
-    is_taken_as_it_is(alloc, &PropType::Bool, &Value::Flag(flag))
+/// Whether a text is taken as it is.
+fn is_text_taken(alloc: Global, text: &str) -> bool {
+    match TextValue::read(alloc, text) {
+        Ok(text) => is_taken_as_it_is(alloc, &PropType::String, &Value::Text(text)),
+        Err(_) => false,
+    }
 }
 
 #[test]
-fn fits_texts_and_flags(rt: HostRuntime) -> Result<(), Fail> {
-    assert!(rt; is_text_taken(rt.alloc(), "a text")?);
-    assert!(rt; is_flag_taken(rt.alloc(), true)?);
-    Ok(())
+fn fits_texts_and_flags(rt: HostRuntime) {
+    let flag = is_taken_as_it_is(rt.alloc(), &PropType::Bool, &Value::Flag(true));
+    assert!(rt; flag && is_text_taken(rt.alloc(), "a text"));
 }
 
 /// Whether a type has this name, and numbers of this unit.
-fn is_named(name: &str, unit: &str) -> Result<bool, Fail> {
-    let prop = type_of(name)?;
+fn is_named(name: &str, unit: &str) -> bool {
+    let Some(prop) = type_of(name) else {
+        return false;
+    };
     if prop == PropType::Turn || prop == PropType::Placement {
-        return Err(Fail::new("no type of one slot"));
+        return false;
     }
     let Sort::Number(of) = prop.sort() else {
-        return Err(Fail::new("no type of numbers"));
+        return false;
     };
     let mut text = ArrayString::new();
     of.write(&mut text);
-    Ok(text.as_str() == unit && prop.type_name() == name)
+    text.as_str() == unit && prop.type_name() == name
 }
 
 #[test]
-fn names_types_and_units(rt: HostRuntime) -> Result<(), Fail> {
+fn names_types_and_units(rt: HostRuntime) {
     for (name, unit) in &UNITS {
-        assert!(rt; is_named(name, unit)?, "{name}");
+        assert!(rt; is_named(name, unit), "{name}");
     }
     assert!(rt; PropType::named("PropertyLength").is_none());
-    Ok(())
 }
 
-fn is_zero(alloc: Global, prop: &PropType, want: &Value) -> Result<bool, AllocError> {
+/// Whether a value is the zero of a type.
+fn is_zero(alloc: Global, prop: &PropType, want: &Value) -> bool {
     if *prop == PropType::Placement {
-        return Ok(false);
+        return false;
     }
-    let zero = prop.zero(alloc)?;
-    Ok(zero == *want)
+    match prop.zero(alloc) {
+        Ok(zero) => zero == *want,
+        Err(_) => false,
+    }
 }
 
-/// Whether the zero of a type is that text.
-fn is_zero_text(alloc: Global, prop: &PropType, text: &str) -> Result<bool, Fail> {
-    let value = text_value(alloc, text)?;
-    Ok(is_zero(alloc, prop, &value)?)
+/// Whether a text is the zero of texts.
+fn is_zero_text(alloc: Global, text: &str) -> bool {
+    match TextValue::read(alloc, text) {
+        Ok(text) => is_zero(alloc, &PropType::String, &Value::Text(text)),
+        Err(_) => false,
+    }
 }
 
-/// Whether the zero of a type is that number.
-fn is_zero_number(alloc: Global, prop: &PropType, raw: i128, unit: &str) -> Result<bool, Fail> {
-    let value = number(raw, unit)?;
-    Ok(is_zero(alloc, prop, &value)?)
+/// Whether a number is the zero of a type.
+fn is_zero_number(alloc: Global, prop: &PropType, raw: i128, unit: &str) -> bool {
+    match number(raw, unit) {
+        Some(value) => is_zero(alloc, prop, &value),
+        None => false,
+    }
 }
 
 #[test]
-fn gives_zeros(rt: HostRuntime) -> Result<(), Fail> {
-    assert!(rt; is_zero_text(rt.alloc(), &PropType::String, "")?);
-    assert!(rt; is_zero(rt.alloc(), &PropType::Bool, &Value::Flag(false))?);
-    assert!(rt; is_zero_number(rt.alloc(), &PropType::Length, 0, "mm")?);
-    Ok(())
+fn gives_zeros(rt: HostRuntime) {
+    let flag = is_zero(rt.alloc(), &PropType::Bool, &Value::Flag(false));
+    assert!(rt; flag && is_zero_text(rt.alloc(), ""));
+    assert!(rt; is_zero_number(rt.alloc(), &PropType::Length, 0, "mm"));
 }
 
 /// The input Width, a Length that is 100 mm.
 fn width(alloc: Global) -> Result<InputPlan, Fail> {
-    let default = number(100_000_000_000, "mm")?;
+    let default = number(100_000_000_000, "mm").ok_or("no number")?;
     Ok(InputPlan {
         name: Name::read(alloc, "Width")?,
         prop: PropType::Length,
@@ -213,47 +215,51 @@ fn opening(alloc: Global) -> Result<OutputPlan, Fail> {
     })
 }
 
-/// A plan without inputs and outputs.
-fn empty_frame(alloc: Global) -> Result<SlotPlan, Fail> {
+/// A plan with a Length that is 100 mm and gives an Area.
+fn frame(alloc: Global) -> Result<SlotPlan, Fail> {
+    let inputs = vec![in alloc; width(alloc)?]?;
+    let outputs = vec![in alloc; opening(alloc)?]?;
     Ok(SlotPlan {
         type_name: TextValue::read(alloc, "Fc::Frame")?,
-        inputs: Vec::new(alloc),
-        outputs: Vec::new(alloc),
+        inputs,
+        outputs,
         placed: false,
         members: false,
     })
 }
 
-/// A plan with a Length that is 100 mm and gives an Area.
-fn frame(alloc: Global) -> Result<SlotPlan, Fail> {
-    let mut plan = empty_frame(alloc)?;
-    plan.inputs.push(width(alloc)?)?;
-    plan.outputs.push(opening(alloc)?)?;
-    Ok(plan)
-}
-
 /// Whether the copy of a plan has this name, an input and an output.
-fn is_plan_copied(alloc: Global, plan: &SlotPlan, name: &str) -> Result<bool, AllocError> {
-    let copy = plan.copy(alloc)?;
-    Ok(copy.type_name.as_str() == name && copy.inputs.len() == 1 && copy.outputs.len() == 1)
+fn is_plan_copied(alloc: Global, plan: &SlotPlan, name: &str) -> bool {
+    match plan.copy(alloc) {
+        Ok(copy) => {
+            copy.type_name.as_str() == name && copy.inputs.len() == 1 && copy.outputs.len() == 1
+        }
+        Err(_) => false,
+    }
 }
 
 #[test]
 fn copies_plans(rt: HostRuntime) -> Result<(), Fail> {
     let plan = frame(rt.alloc())?;
-    let copied = is_plan_copied(rt.alloc(), &plan, "Fc::Frame")?;
-    assert!(rt; copied);
+    assert!(rt; is_plan_copied(rt.alloc(), &plan, "Fc::Frame"));
     Ok(())
 }
 
-fn is_outcome_copied(alloc: Global, outcome: &Outcome) -> Result<bool, AllocError> {
-    Ok(copy_outcome(alloc, outcome)? == *outcome)
+fn is_outcome_copied(alloc: Global, outcome: &Outcome) -> bool {
+    match copy_outcome(alloc, outcome) {
+        Ok(copy) => copy == *outcome,
+        Err(_) => false,
+    }
+}
+
+fn is_text_copied(alloc: Global, text: &str) -> bool {
+    match TextValue::read(alloc, text) {
+        Ok(text) => is_outcome_copied(alloc, &Ok(Value::Text(text))),
+        Err(_) => false,
+    }
 }
 
 #[test]
-fn copies_texts(rt: HostRuntime) -> Result<(), Fail> {
-    let outcome = Ok(text_value(rt.alloc(), "a text")?);
-    let copied = is_outcome_copied(rt.alloc(), &outcome)?;
-    assert!(rt; copied);
-    Ok(())
+fn copies_texts(rt: HostRuntime) {
+    assert!(rt; is_text_copied(rt.alloc(), "a text"));
 }
