@@ -5,8 +5,7 @@ use Rattle.fc_base.specs.Devices.{HasCause, HasRisen, device_failed}
 use Rattle.fc_base.specs.declared.faults.DeviceFault.{DeviceFault}
 use Rattle.fc_base.specs.declared.faults.DeviceFault.TheVariants.{Failed, Memory}
 use Rattle.std.proofs.lemmas.List.{take_at, nil_from_length}
-use Rattle.fcdoc_core.specs.Delivery.{GaveLess}
-use Rattle.fcdoc_core.specs.Plans.{Delivers}
+use Rattle.fcdoc_core.specs.Plans.{Delivers, GavePart}
 
 pub appends_nothing : (known : Option (List ℕ)) → Appends known known []
 appends_nothing None = tt
@@ -48,7 +47,7 @@ so_far-ends piece rest before after s none =
     rw all s.appended
 
 -- something is left that is not taken
-pub so_far-stops : (piece rest : List ℕ) (before mid after : Option (List ℕ)) → SoFar piece rest before mid → Keeps mid after → 0 < length rest → GaveLess piece before after
+pub so_far-stops : (piece rest : List ℕ) (before mid after : Option (List ℕ)) → SoFar piece rest before mid → Keeps mid after → 0 < length rest → GavePart piece before after
 so_far-stops piece rest before mid after s kept more = record {
   taken = length s.given;
   proper = rw (s.whole, length-append s.given rest) (omega arith);

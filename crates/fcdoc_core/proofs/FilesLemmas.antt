@@ -1,34 +1,29 @@
--- Files for which a plan is the meaning, and what a run then wrote.
-use Rattle.std.proofs.Common.{◌≡◌, ℕ, zero, suc, ◌<◌, ◌≤◌, true, List, [], ◌∷◌, length, Option, None, Some, Result, Ok, Err, IfOk, refl, sym, ap, ◌∙◌, arith}
+-- The files for which a plan is the meaning.
+use Rattle.std.proofs.Common.{◌≡◌, ℕ, zero, suc, ◌<◌, ◌≤◌, List, [], ◌∷◌, length, Option, None, Some, Result, Ok, Err, IfOk, IfSome, refl, subst, sym, ap, ◌∙◌, arith, Vec, Global}
 use Rattle.std.proofs.lemmas.Bool.{le-leb, lt-leb}
-use Rattle.std.proofs.KnownBytes.{Keeps-refl}
-use Rattle.std.specs.Io.KnownBytes.{Appends}
 use Rattle.std.specs.FinMap.{get}
-use Rattle.fc_base.specs.Devices.{Held}
+use Rattle.fc_base.specs.Devices.{Held, HoldsBeyond}
 use Rattle.property_types.specs.Plans.{Slots}
 use Rattle.document_outcomes.specs.Full.{Meanings}
 use Rattle.document_outcomes.specs.Typed.{no_features}
-use Rattle.fcdoc_core.proofs.DeliveryLemmas.{appends_nothing}
-use Rattle.fcdoc_core.proofs.HeadlineLemmas.{writes_all}
-use Rattle.fcdoc_core.specs.Delivery.{GaveLess, GaveFront}
-use Rattle.fcdoc_core.specs.declared.status.Status.{Status}
-use Rattle.fcdoc_core.specs.declared.status.Status.TheVariants.{DocumentRefused, StoreFault, SinkFault, Memory}
+use Rattle.fcdoc_core.specs.declared.status.Status.TheVariants.{DocumentRefused}
 use Rattle.fcdoc_core.specs.declared.open_fault.OpenFault.{OpenFault}
 use Rattle.fcdoc_core.specs.declared.open_fault.OpenFault.TheVariants as opening
 use Rattle.fcdoc_core.specs.declared.open_fault.OpenFault.TheVariants.{NotBuilt, Load, Doc}
+use Rattle.fcdoc_core.specs.declared.plan.Found.{Found}
+use Rattle.fcdoc_core.specs.declared.plan.Found.TheVariants.{Bytes, TooLong, Nothing}
 use Rattle.fcdoc_core.specs.declared.plan.Plan.{Plan}
-use Rattle.fcdoc_core.specs.declared.plan.Plan.TheVariants.{DocumentTooLong, ScriptTooLong}
+use Rattle.fcdoc_core.specs.declared.plan.Plan.TheVariants.{Usage, DocumentTooLong, ScriptTooLong}
 use Rattle.fcdoc_core.specs.declared.stop.Stop.{Stop}
-use Rattle.fcdoc_core.specs.Files.{Files, WritesForFiles, top_of_files}
-use Rattle.fcdoc_core.specs.Machine.{State}
+use Rattle.fcdoc_core.specs.Machine.{State, SessionView}
 use Rattle.fcdoc_core.specs.Opening.{Unopened, unloaded, faulty, Opens, opened_of}
 use Rattle.fcdoc_file.specs.Loading.{malformed, not_built}
 use Rattle.fcdoc_core.specs.OpenFaults.{HasLine, open_fault_text}
-use Rattle.fcdoc_core.specs.Plans.{Means, MeansScript, MeansNames, MeansFiles, is_end, top_of_plan}
+use Rattle.fcdoc_core.specs.Plans.{IsFound, MeansForm, MeansScript, top_of_plan}
 use Rattle.fcdoc_core.specs.Replies.{unopened_text}
 use Rattle.fcdoc_core.specs.Scripts.{most_bytes, script_of}
-use Rattle.fcdoc_core.specs.Top.{one_piece, text_of, top_of_lines, top_of_state, missing}
-use Rattle.fcdoc_core.specs.Words.{Names, names_of}
+use Rattle.fcdoc_core.specs.Top.{Files, files_in, missing, one_piece, top_of_form, top_of_lines, top_of_state}
+use Rattle.fcdoc_core.specs.Words.{Form, Names, run}
 
 -- bytes above a length
 pub record Longer (limit : ℕ) : Type 0 where
@@ -46,14 +41,28 @@ zeros_length (suc n) = ap suc (zeros_length n)
 pub longer : (limit : ℕ) → Longer limit
 longer limit = record { bytes = zeros (suc limit); beyond = rw (zeros_length (suc limit)) (omega arith) }
 
-pub script_found : (name bytes : List ℕ) (s : State) (result : Result Plan Stop) → length bytes ≤ most_bytes
-    → IfOk result (λ plan. top_of_plan plan ≡ top_of_lines [] no_features s (script_of bytes))
-    → IfOk result (MeansScript name (Ok s))
-script_found name bytes s (Ok plan) within is = record { script = Some bytes; means = rw (le-leb (length bytes) most_bytes within) (sym is) }
-script_found name bytes s (Err stop) within is = tt
+-- ---- the script
 
-pub long_script : (name : List ℕ) (s : State) → MeansScript name (Ok s) ScriptTooLong
-long_script name s = record { script = Some (longer most_bytes).bytes; means = rw (lt-leb (length (longer most_bytes).bytes) most_bytes (longer most_bytes).beyond) refl }
+pub bytes_there : (known : Option Held) (name : List ℕ) (v : Vec ℕ Global) → IfSome known (λ held. IsFound held name (Bytes v)) → IfSome known (λ held. get held name ≡ Some v.items)
+bytes_there None name v found = tt
+bytes_there (Some held) name v found = found.0
+
+pub script_found : (plans : List Slots) (known : Option Held) (name bytes : List ℕ) (s : State) (result : Result Plan Stop)
+    → IfSome known (λ held. get held name ≡ Some bytes) → length bytes ≤ most_bytes
+    → IfOk result (λ plan. top_of_plan plan ≡ top_of_lines plans no_features s (script_of bytes))
+    → IfOk result (MeansScript plans known name (Ok s))
+script_found plans known name bytes s (Ok plan) there within is = record { script = Some bytes; found = there; means = rw (le-leb (length bytes) most_bytes within) (sym is) }
+script_found plans known name bytes s (Err stop) there within is = tt
+
+pub long_script : (plans : List Slots) (known : Option Held) (name : List ℕ) (s : State) → IfSome known (λ held. HoldsBeyond held name most_bytes) → MeansScript plans known name (Ok s) ScriptTooLong
+long_script plans None name s there = record { script = Some (longer most_bytes).bytes; found = tt; means = rw (lt-leb (length (longer most_bytes).bytes) most_bytes (longer most_bytes).beyond) refl }
+long_script plans (Some held) name s there = record { script = Some there.bytes; found = there.found; means = rw (lt-leb (length there.bytes) most_bytes there.beyond) refl }
+
+pub script_missing : (plans : List Slots) (known : Option Held) (name : List ℕ) (s : State) (result : Result Plan Stop)
+    → IfSome known (λ held. get held name ≡ None) → IfOk result (λ plan. top_of_plan plan ≡ missing name)
+    → IfOk result (MeansScript plans known name (Ok s))
+script_missing plans known name s (Ok plan) there is = record { script = None; found = there; means = sym is }
+script_missing plans known name s (Err stop) there is = tt
 
 -- a document that is not opened has the line of its fault, whatever stands under the script's name
 unopened_line : (u : Result State Unopened) (fault : OpenFault) → Opens u (Err fault) → HasLine fault → (plans : List Slots) (m : Meanings) (name : List ℕ) (found : Option (List ℕ))
@@ -77,68 +86,84 @@ unopened_line (Err (faulty f)) (Doc told) o h plans m name found =
     ∙ ap (λ s. one_piece DocumentRefused (unopened_text (faulty (record { number = told.number; subject = s })))) o.subject
 unopened_line (Err (faulty f)) (opening.Memory e) o h plans m name found = absurd h
 
-pub refused_told : (known : Option Held) (name : List ℕ) (u : Result State Unopened) (fault : OpenFault) (result : Result Plan Stop) → Opens u (Err fault) → HasLine fault
+-- what stands under a name, where the store tells it
+abbrev there_for : Option Held → List ℕ → Option (List ℕ)
+there_for None name = None
+there_for (Some held) name = get held name
+
+there_is : (known : Option Held) (name : List ℕ) → IfSome known (λ held. get held name ≡ there_for known name)
+there_is None name = tt
+there_is (Some held) name = refl
+
+pub refused_means : (known : Option Held) (name : List ℕ) (u : Result State Unopened) (fault : OpenFault) (result : Result Plan Stop) → Opens u (Err fault) → HasLine fault
     → IfOk result (λ plan. top_of_plan plan ≡ one_piece DocumentRefused (open_fault_text fault))
-    → IfOk result (Means known (λ held. top_of_state [] no_features name (get held name) u))
-refused_told known name u fault (Err stop) o h is = tt
-refused_told None name u fault (Ok plan) o h is = tt
-refused_told (Some held) name u fault (Ok plan) o h is = unopened_line u fault o h [] no_features name (get held name) ∙ sym is
+    → IfOk result (MeansScript [] known name u)
+refused_means known name u fault (Err stop) o h is = tt
+refused_means known name u fault (Ok plan) o h is = record {
+  script = there_for known name;
+  found = there_is known name;
+  means = unopened_line u fault o h [] no_features name (there_for known name) ∙ sym is;
+}
 
-pub refused_means : (name : List ℕ) (u : Result State Unopened) (fault : OpenFault) (result : Result Plan Stop) → Opens u (Err fault) → HasLine fault
-    → IfOk result (λ plan. top_of_plan plan ≡ one_piece DocumentRefused (open_fault_text fault))
-    → IfOk result (MeansScript name u)
-refused_means name u fault (Err stop) o h is = tt
-refused_means name u fault (Ok plan) o h is = record { script = None; means = unopened_line u fault o h [] no_features name None ∙ sym is }
+-- a document that was opened is that of the session, which has no features
+pub opened_means : (known : Option Held) (name : List ℕ) (u : Result State Unopened) (v : SessionView) (result : Result Plan Stop) → Opens u (Ok v)
+    → IfOk result (MeansScript v.plans known name (Ok v.state)) → IfOk result (MeansScript [] known name u)
+opened_means known name u v (Err stop) o m = tt
+opened_means known name (Ok s) v (Ok plan) o m = subst (λ (w : SessionView). MeansScript w.plans known name (Ok w.state) plan) o m
+opened_means known name (Err cause) v (Ok plan) o m = absurd o
 
-pub document_found : (names : Names) (bytes : List ℕ) (result : Result Plan Stop) → length bytes ≤ most_bytes
-    → IfOk result (MeansScript names.script (opened_of bytes))
-    → IfOk result (MeansNames names)
-document_found names bytes (Ok plan) within is = record { files = record { document = Some bytes; script = is.script }; means = rw (le-leb (length bytes) most_bytes within) is.means }
-document_found names bytes (Err stop) within is = tt
+-- ---- the form
 
-pub long_document : (names : Names) → MeansNames names DocumentTooLong
-long_document names = record {
+-- what a store holds under both names
+held-files : (known : Option Held) (names : Names) (document script : Option (List ℕ)) → IfSome known (λ held. get held names.document ≡ document) → IfSome known (λ held. get held names.script ≡ script)
+    → IfSome known (λ held. files_in held (Some (run names)) ≡ record { document = document; script = script })
+held-files None names document script d s = tt
+held-files (Some held) names document script d s =
+    ap (λ (x : Option (List ℕ)). record { document = x; script = get held names.script }) d ∙ ap (λ (x : Option (List ℕ)). record { document = document; script = x }) s
+
+pub document_found : (known later : Option Held) (names : Names) (bytes : List ℕ) (result : Result Plan Stop) → later ≡ known
+    → IfSome known (λ held. get held names.document ≡ Some bytes) → length bytes ≤ most_bytes
+    → IfOk result (MeansScript [] later names.script (opened_of bytes))
+    → IfOk result (MeansForm known (Some (run names)))
+document_found known later names bytes (Ok plan) same there within m =
+    let n : MeansScript [] known names.script (opened_of bytes) plan = subst (λ (k : Option Held). MeansScript [] k names.script (opened_of bytes) plan) same m in
+    record {
+      files = record { document = Some bytes; script = n.script };
+      found = held-files known names (Some bytes) n.script there n.found;
+      means = rw (le-leb (length bytes) most_bytes within) n.means;
+    }
+document_found known later names bytes (Err stop) same there within m = tt
+
+pub long_document : (known : Option Held) (names : Names) → IfSome known (λ held. HoldsBeyond held names.document most_bytes) → MeansForm known (Some (run names)) DocumentTooLong
+long_document None names there = record {
   files = record { document = Some (longer most_bytes).bytes; script = None };
+  found = tt;
   means = rw (lt-leb (length (longer most_bytes).bytes) most_bytes (longer most_bytes).beyond) refl;
 }
-
-pub document_missing : (names : Names) (result : Result Plan Stop)
-    → IfOk result (λ plan. top_of_plan plan ≡ missing names.document)
-    → IfOk result (MeansNames names)
-document_missing names (Ok plan) is = record { files = record { document = None; script = None }; means = sym is }
-document_missing names (Err stop) is = tt
-
--- files for which the plan of these words is the meaning; of words without names all files are
-pub record HasFiles (names : Option Names) (plan : Plan) : Type 0 where
-  pub files : Files
-  pub means : top_of_files [] no_features names files ≡ top_of_plan plan
-
-has_files : (names : Option Names) (plan : Plan) → MeansFiles names plan → HasFiles names plan
-has_files None plan m = record { files = record { document = None; script = None }; means = m }
-has_files (Some names) plan m = record { files = m.files; means = m.means }
-
--- the store failed before anything was written
-pub store_failed : (words : List (List ℕ)) (known : Option (List ℕ)) → WritesForFiles words StoreFault known known
-store_failed words known = record { files = record { document = None; script = None }; writes = Keeps-refl known }
-
--- memory ran out before anything was written
-pub no_memory : (words : List (List ℕ)) (known : Option (List ℕ)) → WritesForFiles words Memory known known
-no_memory words known = record {
-  files = record { document = None; script = None };
-  writes = record { taken = 0; within = omega arith; given = appends_nothing known };
+long_document (Some held) names there = record {
+  files = record { document = Some there.bytes; script = get held names.script };
+  found = ap (λ (x : Option (List ℕ)). record { document = x; script = get held names.script }) there.found;
+  means = rw (lt-leb (length there.bytes) most_bytes there.beyond) refl;
 }
 
--- the plan was written to its end
-pub all_written : (words : List (List ℕ)) (plan : Plan) (status : Status) (before after : Option (List ℕ)) → MeansFiles (names_of words) plan
-    → is_end status ≡ true → status ≡ (top_of_plan plan).status → Appends before after (text_of (top_of_plan plan))
-    → WritesForFiles words status before after
-all_written words plan status before after m e s a = record { files = (has_files (names_of words) plan m).files; writes = rw ((has_files (names_of words) plan m).means) (writes_all (top_of_plan plan) status before after e s a) }
+pub document_missing : (known : Option Held) (names : Names) (result : Result Plan Stop) → IfSome known (λ held. get held names.document ≡ None)
+    → IfOk result (λ plan. top_of_plan plan ≡ missing names.document)
+    → IfOk result (MeansForm known (Some (run names)))
+document_missing known names (Ok plan) there is = record {
+  files = record { document = None; script = there_for known names.script };
+  found = held-files known names None (there_for known names.script) there (there_is known names.script);
+  means = sym is;
+}
+document_missing known names (Err stop) there is = tt
 
--- a front of the plan was written
-pub sink_failed : (words : List (List ℕ)) (plan : Plan) (before after : Option (List ℕ)) → MeansFiles (names_of words) plan
-    → GaveLess (text_of (top_of_plan plan)) before after → WritesForFiles words SinkFault before after
-sink_failed words plan before after m gave = record { files = (has_files (names_of words) plan m).files; writes = rw ((has_files (names_of words) plan m).means) gave }
-
-pub memory_ended : (words : List (List ℕ)) (plan : Plan) (before after : Option (List ℕ)) → MeansFiles (names_of words) plan
-    → GaveFront (text_of (top_of_plan plan)) before after → WritesForFiles words Memory before after
-memory_ended words plan before after m gave = record { files = (has_files (names_of words) plan m).files; writes = rw ((has_files (names_of words) plan m).means) gave }
+-- words without a form
+pub usage_means : (known : Option Held) (form : Option Form) → form ≡ None → MeansForm known form Usage
+usage_means known form none = subst (λ (f : Option Form). MeansForm known f Usage) (sym none) (record {
+  files = record { document = None; script = None };
+  found = same known;
+  means = refl;
+})
+  where
+    same : (k : Option Held) → IfSome k (λ held. files_in held None ≡ record { document = None; script = None })
+    same None = tt
+    same (Some held) = refl

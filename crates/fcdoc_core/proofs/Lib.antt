@@ -1,9 +1,12 @@
 pub mod CuttingLemmas
 pub mod DeliveryLemmas
 pub mod FilesLemmas
+pub mod FrontLemmas
 pub mod HeadlineLemmas
 pub mod RepliesLemmas
 pub mod ScriptLemmas
 pub mod SessionLemmas
 pub mod SpellingLemmas
 pub mod OpenLemmas
+pub mod WorkedRunsLemmas
+pub mod WorkedSessionLemmas

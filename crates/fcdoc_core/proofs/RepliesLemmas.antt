@@ -1,131 +1,163 @@
 -- Replying line by line gives the replies to all lines that are not skipped.
-use Rattle.std.proofs.Common.{◌≡◌, ℕ, suc, ◌+◌, ◌<◌, ◌≤◌, Bool, true, false, cond, not, ◌||◌, List, [], ◌∷◌, ◌++◌, length, map, take, drop, drop-cons, get_or, add-one, Option, Result, Ok, Err, refl, subst, sym, ap, ◌∙◌, append_assoc, arith, length-append, string_bytes, String, Global}
+use Rattle.std.proofs.Common.{◌≡◌, ℕ, suc, ◌+◌, ◌<◌, ◌≤◌, Bool, true, false, cond, not, ◌||◌, List, [], ◌∷◌, ◌++◌, length, map, take, drop, drop-cons, get_or, add-one, Option, Some, Result, Ok, Err, refl, subst, sym, ap, ◌∙◌, append_assoc, append-nil, arith, slice_get, string_bytes, String, Global}
 use Rattle.std.specs.List.{flat_map, list_any}
 use Rattle.std.specs.Io.KnownBytes.{Appends}
-use Rattle.std.proofs.Math.Seq.{take-append-add}
-use Rattle.std.proofs.lemmas.List.{take-append-le}
+use Rattle.std.proofs.lemmas.List.{take_at}
 use Rattle.fc_base.specs.Devices.{HasRisen}
 use Rattle.fcdoc_core.specs.declared.stop.Stop.{Stop}
 use Rattle.fcdoc_core.specs.declared.stop.Stop.TheVariants.{Store, Sink, Memory}
-use Rattle.fcdoc_core.specs.Delivery.{GaveLess, GaveFront}
+use Rattle.fcdoc_core.specs.Delivery.{Front, GaveLess, GaveFront, text_at, text_within}
 use Rattle.document_outcomes.specs.Typed.{no_features}
-use Rattle.doc_rules.specs.declared.refusal.Refusal.{Refusal}
-use Rattle.fcdoc_core.specs.declared.reply.Reply.{Reply}
-use Rattle.fcdoc_core.specs.Machine.{State, step_line, answers, is_refusal}
+use Rattle.fcdoc_core.specs.Machine.{SessionView, Stepped, step_line, stepped, moved_to, is_refused}
 use Rattle.fcdoc_core.specs.Replies.{answer_text}
-use Rattle.fcdoc_core.specs.Plans.{Tells, Speaks}
+use Rattle.fcdoc_core.specs.Plans.{GavePart, GaveSome, Tells, Speaks}
 use Rattle.fcdoc_core.specs.Scripts.{is_skipped, with_replies}
-use Rattle.fcdoc_core.specs.Top.{replies_of, status_of}
+use Rattle.fcdoc_core.specs.Top.{Piece, one_piece, piece_of, replies_of, status_of, text_of}
 use Rattle.fcdoc_core.specs.declared.status.Status.{Status}
-use Rattle.fcdoc_core.proofs.DeliveryLemmas.{SoFar, so_far-start, appends_more}
+use Rattle.fcdoc_core.proofs.DeliveryLemmas.{appends_more, appends_nothing}
 
--- the answers of the machine without features to the lines that are not skipped, and the state behind a line
-abbrev pub answers_to : State → List (List ℕ) → List (Result Reply Refusal)
-answers_to s lines = answers [] no_features s (with_replies lines)
+-- ---- fronts of pieces
 
-abbrev pub state_behind : State → List ℕ → State
-state_behind s line = (step_line [] no_features s line).state
+-- the text of pieces behind others
+text_of_append : (a b : List Piece) → text_of (a ++ b) ≡ text_of a ++ text_of b
+text_of_append [] b = refl
+text_of_append (p ∷ a) b = ap (λ (l : List ℕ). p.text ++ l) (text_of_append a b) ∙ sym (append_assoc p.text (text_of a) (text_of b))
 
-abbrev pub text_of_answers : List (Result Reply Refusal) → List ℕ
-text_of_answers all = flat_map (λ piece. piece) (map answer_text all)
+text_of_one : (a : List Piece) (p : Piece) → text_of (a ++ p ∷ []) ≡ text_of a ++ p.text
+text_of_one a p = text_of_append a (p ∷ []) ∙ ap (λ (l : List ℕ). text_of a ++ l) (append-nil p.text)
+
+-- the text of the piece that stands behind others
+text_there : (a : List Piece) (p : Piece) (rest : List Piece) → text_at (a ++ p ∷ rest) (length a) ≡ p.text
+text_there [] p rest = refl
+text_there (q ∷ a) p rest = text_there a p rest
+
+-- the text of a front that is those others, and so many bytes of that piece
+text_of_front : (a : List Piece) (p : Piece) (rest : List Piece) (n : ℕ)
+    → text_within (a ++ p ∷ rest) (record { whole = length a; part = n }) ≡ text_of a ++ take n p.text
+text_of_front a p rest n =
+    ap (λ (l : List Piece). text_of l ++ take n (text_at (a ++ p ∷ rest) (length a))) (take_at a (p ∷ rest) (length a) refl)
+    ∙ ap (λ (t : List ℕ). text_of a ++ take n t) (text_there a p rest)
+
+-- pieces were given whole, and a part of the next
+given-less : (a : List Piece) (p : Piece) (rest : List Piece) (before mid after : Option (List ℕ)) → Appends before mid (text_of a) → GavePart p.text mid after → GaveLess (a ++ p ∷ rest) before after
+given-less a p rest before mid after h g = record {
+  front = record { whole = length a; part = g.taken };
+  proper = subst (λ (t : List ℕ). g.taken < length t) (sym (text_there a p rest)) g.proper;
+  given = subst (λ (t : List ℕ). Appends before after t) (sym (text_of_front a p rest g.taken)) (appends_more before mid after (text_of a) (take g.taken p.text) h g.given);
+}
+
+given-front : (a : List Piece) (p : Piece) (rest : List Piece) (before mid after : Option (List ℕ)) → Appends before mid (text_of a) → GaveSome p.text mid after → GaveFront (a ++ p ∷ rest) before after
+given-front a p rest before mid after h g = record {
+  front = record { whole = length a; part = g.taken };
+  within = subst (λ (t : List ℕ). g.taken ≤ length t) (sym (text_there a p rest)) g.within;
+  given = subst (λ (t : List ℕ). Appends before after t) (sym (text_of_front a p rest g.taken)) (appends_more before mid after (text_of a) (take g.taken p.text) h g.given);
+}
+
+-- ---- one line
+
+pub one-spoken : {X : Type 0} (status : Status) (text : List ℕ) (P : X → Type 0) (x : X) (before after : Option (List ℕ)) (old new : ℕ) → Tells text P (Ok x) before after old new → Speaks (one_piece status text) (Ok status) before after old new
+one-spoken status text P x before after old new told = (refl, subst (λ (t : List ℕ). Appends before after t) (sym (append-nil text)) told.1, told.2)
+
+pub one-stopped : {X : Type 0} (status : Status) (text : List ℕ) (P : X → Type 0) (stop : Stop) (before after : Option (List ℕ)) (old new : ℕ) → Tells text P (Err stop) before after old new → Speaks (one_piece status text) (Err stop) before after old new
+one-stopped status text P Store before after old new told = told
+one-stopped status text P Sink before after old new told = (given-less [] (record { text = text; calls = [] }) [] before before after (appends_nothing before) told.0, told.1)
+one-stopped status text P Memory before after old new told = (given-front [] (record { text = text; calls = [] }) [] before before after (appends_nothing before) told.0, told.1)
+
+-- nothing was written, since memory ran out before
+pub nothing-spoken : (status : Status) (text : List ℕ) (known : Option (List ℕ)) (count : ℕ) → Speaks (one_piece status text) (Err Memory) known known count count
+nothing-spoken status text known count = (record { front = record { whole = 0; part = 0 }; within = omega arith; given = appends_nothing known }, refl)
+
+-- ---- a script
+
+-- what the machine without features does at a line, and at the lines that are not skipped; and the session
+-- behind a line
+abbrev pub step_at : SessionView → List ℕ → Stepped
+step_at v line = step_line v.plans no_features v.state line
+
+abbrev pub steps_to : SessionView → List (List ℕ) → List Stepped
+steps_to v lines = stepped v.plans no_features v.state (with_replies lines)
+
+abbrev pub view_behind : SessionView → List ℕ → SessionView
+view_behind v line = moved_to v (step_at v line).state
+
+abbrev pub pieces_to : SessionView → List (List ℕ) → List Piece
+pieces_to v lines = map piece_of (steps_to v lines)
 
 -- the lines that are left begin with this one
 lines_left : (lines : List (String Global)) (i : ℕ) (line : String Global) → i < length lines → line ≡ get_or lines i line → drop i lines ≡ line ∷ drop (i + 1) lines
 lines_left lines i line below is = rw add-one (drop-cons lines i line below ∙ ap (λ l. l ∷ drop (suc i) lines) (sym is))
 
--- the answers that are left, at a line that is not skipped
-answers_left : (s : State) (lines : List (String Global)) (i : ℕ) (line : String Global) → i < length lines → line ≡ get_or lines i line → is_skipped (string_bytes line) ≡ false
-    → answers_to s (map string_bytes (drop i lines))
-    ≡ (step_line [] no_features s (string_bytes line)).answer ∷ answers_to (state_behind s (string_bytes line)) (map string_bytes (drop (i + 1) lines))
-answers_left s lines i line below is kept =
+-- the steps that are left, at a line that is not skipped
+steps_left : (v : SessionView) (lines : List (String Global)) (i : ℕ) (line : String Global) → i < length lines → line ≡ get_or lines i line → is_skipped (string_bytes line) ≡ false
+    → steps_to v (map string_bytes (drop i lines))
+    ≡ step_at v (string_bytes line) ∷ steps_to (view_behind v (string_bytes line)) (map string_bytes (drop (i + 1) lines))
+steps_left v lines i line below is kept =
     let rest : List (List ℕ) = with_replies (map string_bytes (drop (i + 1) lines)) in
-    ap (λ ls. answers_to s (map string_bytes ls)) (lines_left lines i line below is) ∙ ap (λ b. answers [] no_features s (cond (not b) (string_bytes line ∷ rest) rest)) kept
-
--- what is left of the text, at a line of the script
-pub text_left : (s : State) (lines : List (String Global)) (i : ℕ) (line : String Global) → i < length lines → line ≡ get_or lines i line → is_skipped (string_bytes line) ≡ false
-    → text_of_answers (answers_to s (map string_bytes (drop i lines)))
-    ≡ answer_text (step_line [] no_features s (string_bytes line)).answer ++ text_of_answers (answers_to (state_behind s (string_bytes line)) (map string_bytes (drop (i + 1) lines)))
-text_left s lines i line below is kept = ap text_of_answers (answers_left s lines i line below is kept)
-
--- and whether a refusal is left
-pub refusal_left : (s : State) (lines : List (String Global)) (i : ℕ) (line : String Global) → i < length lines → line ≡ get_or lines i line → is_skipped (string_bytes line) ≡ false
-    → list_any is_refusal (answers_to s (map string_bytes (drop i lines)))
-    ≡ (is_refusal (step_line [] no_features s (string_bytes line)).answer || list_any is_refusal (answers_to (state_behind s (string_bytes line)) (map string_bytes (drop (i + 1) lines))))
-refusal_left s lines i line below is kept = ap (list_any is_refusal) (answers_left s lines i line below is kept)
-
--- a piece more was given
-pub so_far-piece : (all piece rest : List ℕ) (before mid after : Option (List ℕ)) → SoFar all (piece ++ rest) before mid → Appends mid after piece → SoFar all rest before after
-so_far-piece all piece rest before mid after s a = record {
-  given = s.given ++ piece;
-  whole = s.whole ∙ sym (append_assoc s.given piece rest);
-  appended = appends_more before mid after s.given piece s.appended a;
-}
-
--- a front of the next piece is behind what was given so far
-front_of : (all piece rest : List ℕ) (given : List ℕ) (n : ℕ) → all ≡ given ++ (piece ++ rest) → n ≤ length piece → take (length given + n) all ≡ given ++ take n piece
-front_of all piece rest given n whole within =
-    ap (take (length given + n)) whole ∙ take-append-add given (piece ++ rest) n ∙ ap (λ l. given ++ l) (take-append-le n piece rest within)
-
-pub so_far-less : (all piece rest : List ℕ) (before mid after : Option (List ℕ)) → SoFar all (piece ++ rest) before mid → GaveLess piece mid after → GaveLess all before after
-so_far-less all piece rest before mid after s g = record {
-  taken = length s.given + g.taken;
-  proper = let p = g.proper in rw (s.whole, length-append s.given (piece ++ rest), length-append piece rest) (omega arith);
-  given = rw (front_of all piece rest s.given g.taken s.whole (let p = g.proper in omega arith)) (appends_more before mid after s.given (take g.taken piece) s.appended g.given);
-}
-
-pub so_far-front : (all piece rest : List ℕ) (before mid after : Option (List ℕ)) → SoFar all (piece ++ rest) before mid → GaveFront piece mid after → GaveFront all before after
-so_far-front all piece rest before mid after s g = record {
-  taken = length s.given + g.taken;
-  within = let p = g.within in rw (s.whole, length-append s.given (piece ++ rest), length-append piece rest) (omega arith);
-  given = rw (front_of all piece rest s.given g.taken s.whole g.within) (appends_more before mid after s.given (take g.taken piece) s.appended g.given);
-}
-
--- a reply that was not written ends the replies
-pub tells-stops : {X Y : Type 0} (all piece rest : List ℕ) (P : X → Type 0) (Q : Y → Type 0) (stop : Stop) (before mid after : Option (List ℕ)) (first old new : ℕ)
-    → SoFar all (piece ++ rest) before mid → old ≡ first → Tells piece P (Err stop) mid after old new → Tells all Q (Err stop) before after first new
-tells-stops all piece rest P Q Store before mid after first old new s same told = told
-tells-stops all piece rest P Q Sink before mid after first old new s same told = (so_far-less all piece rest before mid after s told.0, subst (λ (n : ℕ). HasRisen n new) same told.1)
-tells-stops all piece rest P Q Memory before mid after first old new s same told = (so_far-front all piece rest before mid after s told.0, told.1 ∙ same)
+    ap (λ ls. steps_to v (map string_bytes ls)) (lines_left lines i line below is) ∙ ap (λ b. stepped v.plans no_features v.state (cond (not b) (string_bytes line ∷ rest) rest)) kept
 
 -- a reply more was looked at
 pub refusals-step : (so_far is left next all : Bool) → (so_far || left) ≡ all → left ≡ (is || next) → ((so_far || is) || next) ≡ all
 refusals-step true is left next all h e = h
 refusals-step false is left next all h e = sym e ∙ h
 
--- ---- the loop over the lines
-
--- the replies so far, and those to the lines from i on, are the replies to all lines; refused tells of
--- a refusal so far, and the sink's count of faults did not change
-pub record RepliesSoFar (s now : State) (lines : List (String Global)) (i : ℕ) (refused : Bool) (before mid : Option (List ℕ)) (first old : ℕ) : Type 0 where
-  pub so_far : SoFar (text_of_answers (answers_to s (map string_bytes lines))) (text_of_answers (answers_to now (map string_bytes (drop i lines)))) before mid
-  pub refusals : (refused || list_any is_refusal (answers_to now (map string_bytes (drop i lines)))) ≡ list_any is_refusal (answers_to s (map string_bytes lines))
+-- the pieces so far, and those of the lines from i on, are the pieces of all lines; refused tells of a
+-- refusal so far, and the sink's count of faults did not change
+pub record RepliesSoFar (v w : SessionView) (lines : List (String Global)) (i : ℕ) (refused : Bool) (before mid : Option (List ℕ)) (first old : ℕ) : Type 0 where
+  pub done : List Piece
+  pub pieces : pieces_to v (map string_bytes lines) ≡ done ++ pieces_to w (map string_bytes (drop i lines))
+  pub appended : Appends before mid (text_of done)
+  pub refusals : (refused || list_any is_refused (steps_to w (map string_bytes (drop i lines)))) ≡ list_any is_refused (steps_to v (map string_bytes lines))
   pub same_count : old ≡ first
 
-pub replies_so_far-start : (s : State) (lines : List (String Global)) (known : Option (List ℕ)) (count : ℕ) → RepliesSoFar s s lines 0 false known known count count
-replies_so_far-start s lines known count = record { so_far = so_far-start _ known; refusals = refl; same_count = refl }
+pub replies_so_far-start : (v : SessionView) (lines : List (String Global)) (known : Option (List ℕ)) (count : ℕ) → RepliesSoFar v v lines 0 false known known count count
+replies_so_far-start v lines known count = record { done = []; pieces = refl; appended = appends_nothing known; refusals = refl; same_count = refl }
 
-module _ (s now : State) (lines : List (String Global)) (i : ℕ) (line : String Global) (text : List ℕ) (refused : Bool)
+module _ (v w : SessionView) (lines : List (String Global)) (i : ℕ) (line : String Global) (text : List ℕ) (refused : Bool)
     (before mid after : Option (List ℕ)) (first old new : ℕ)
-    (below : i < length lines) (is : line ≡ get_or lines i line) (same : text ≡ string_bytes line) (kept : is_skipped text ≡ false) (r : RepliesSoFar s now lines i refused before mid first old) where
-  left : SoFar (text_of_answers (answers_to s (map string_bytes lines))) (answer_text (step_line [] no_features now text).answer ++ text_of_answers (answers_to (state_behind now text) (map string_bytes (drop (i + 1) lines)))) before mid
-  left = rw same (rw (text_left now lines i line below is (rw same at kept)) at r.so_far)
+    (below : i < length lines) (is : line ≡ get_or lines i line) (same : text ≡ string_bytes line) (kept : is_skipped text ≡ false) (r : RepliesSoFar v w lines i refused before mid first old) where
+  steps_are : steps_to w (map string_bytes (drop i lines)) ≡ step_at w text ∷ steps_to (view_behind w text) (map string_bytes (drop (i + 1) lines))
+  steps_are = rw same (steps_left w lines i line below is (rw same at kept))
 
-  refusal_is_left : list_any is_refusal (answers_to now (map string_bytes (drop i lines)))
-      ≡ (is_refusal (step_line [] no_features now text).answer || list_any is_refusal (answers_to (state_behind now text) (map string_bytes (drop (i + 1) lines))))
-  refusal_is_left = rw same (refusal_left now lines i line below is (rw same at kept))
+  abbrev rest : List Piece
+  rest = pieces_to (view_behind w text) (map string_bytes (drop (i + 1) lines))
+
+  pieces_are : pieces_to v (map string_bytes lines) ≡ r.done ++ piece_of (step_at w text) ∷ rest
+  pieces_are = r.pieces ∙ ap (λ (steps : List Stepped). r.done ++ map piece_of steps) steps_are
 
   -- a reply more was written
-  pub replies_so_far-goes_on : (is_one : Bool) → Tells (answer_text (step_line [] no_features now text).answer) (λ b. b ≡ is_refusal (step_line [] no_features now text).answer) (Ok is_one) mid after old new
-      → (then : State) → then ≡ state_behind now text → RepliesSoFar s then lines (i + 1) (refused || is_one) before after first new
+  pub replies_so_far-goes_on : (is_one : Bool) → Tells (answer_text (step_at w text).answer) (λ b. b ≡ is_refused (step_at w text)) (Ok is_one) mid after old new
+      → (then : SessionView) → then ≡ view_behind w text → RepliesSoFar v then lines (i + 1) (refused || is_one) before after first new
   replies_so_far-goes_on is_one told then behind = rw behind (record {
-    so_far = so_far-piece _ _ _ before mid after left told.1;
-    refusals = refusals-step refused is_one _ (list_any is_refusal (answers_to (state_behind now text) (map string_bytes (drop (i + 1) lines)))) _ r.refusals
-        (refusal_is_left ∙ ap (λ b. b || list_any is_refusal (answers_to (state_behind now text) (map string_bytes (drop (i + 1) lines)))) (sym told.0));
+    done = r.done ++ piece_of (step_at w text) ∷ [];
+    pieces = pieces_are ∙ sym (append_assoc r.done (piece_of (step_at w text) ∷ []) rest);
+    appended = subst (λ (t : List ℕ). Appends before after t) (sym (text_of_one r.done (piece_of (step_at w text)))) (appends_more before mid after (text_of r.done) (answer_text (step_at w text).answer) r.appended told.1);
+    refusals = refusals-step refused is_one _ (list_any is_refused (steps_to (view_behind w text) (map string_bytes (drop (i + 1) lines)))) _ r.refusals
+        (ap (list_any is_refused) steps_are ∙ ap (λ b. b || list_any is_refused (steps_to (view_behind w text) (map string_bytes (drop (i + 1) lines)))) (sym told.0));
     same_count = told.2 ∙ r.same_count;
   })
 
   -- a reply was not written
-  pub replies_so_far-stops : (stop : Stop) → Tells {X = Bool} (answer_text (step_line [] no_features now text).answer) (λ b. b ≡ is_refusal (step_line [] no_features now text).answer) (Err stop) mid after old new
-      → Speaks (replies_of (answers_to s (map string_bytes lines))) (Err stop) before after first new
-  replies_so_far-stops stop told = tells-stops _ (answer_text (step_line [] no_features now text).answer) _ (λ b. b ≡ is_refusal (step_line [] no_features now text).answer)
-      (λ (status : Status). status ≡ status_of (answers_to s (map string_bytes lines))) stop before mid after first old new left r.same_count told
+  pub replies_so_far-stops : (stop : Stop) → Tells {X = Bool} (answer_text (step_at w text).answer) (λ b. b ≡ is_refused (step_at w text)) (Err stop) mid after old new
+      → Speaks (replies_of (steps_to v (map string_bytes lines))) (Err stop) before after first new
+  replies_so_far-stops Store told = told
+  replies_so_far-stops Sink told = (
+    subst (λ (all : List Piece). GaveLess all before after) (sym pieces_are) (given-less r.done (piece_of (step_at w text)) rest before mid after r.appended told.0),
+    subst (λ (n : ℕ). HasRisen n new) r.same_count told.1,
+  )
+  replies_so_far-stops Memory told = (
+    subst (λ (all : List Piece). GaveFront all before after) (sym pieces_are) (given-front r.done (piece_of (step_at w text)) rest before mid after r.appended told.0),
+    told.1 ∙ r.same_count,
+  )
+
+-- all replies were written
+pub replies_so_far-end : (v w : SessionView) (lines : List (String Global)) (i : ℕ) (refused : Bool) (before mid : Option (List ℕ)) (first old : ℕ) → RepliesSoFar v w lines i refused before mid first old
+    → drop i lines ≡ [] → (refused ≡ list_any is_refused (steps_to v (map string_bytes lines))) × Appends before mid (text_of (pieces_to v (map string_bytes lines))) × (old ≡ first)
+replies_so_far-end v w lines i refused before mid first old r none = (
+  or_nothing refused _ (ap (λ (ls : List (String Global)). refused || list_any is_refused (steps_to w (map string_bytes ls))) (sym none) ∙ r.refusals),
+  subst (λ (t : List ℕ). Appends before mid t) (ap text_of (sym (r.pieces ∙ ap (λ (ls : List (String Global)). r.done ++ pieces_to w (map string_bytes ls)) none ∙ append-nil r.done))) r.appended,
+  r.same_count,
+)
+  where
+    or_nothing : (a b : Bool) → (a || false) ≡ b → a ≡ b
+    or_nothing true b h = h
+    or_nothing false b h = h

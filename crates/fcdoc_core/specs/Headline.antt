@@ -1,85 +1,118 @@
--- What a run leaves, by its status.
-use Rattle.std.specs.Prelude.{◌≡◌, ◌≢◌, ◌⊎◌, ℕ, List, [], Option, IfSome}
+-- What a run leaves, by the way in which it ended.
+use Rattle.std.specs.Prelude.{◌≡◌, ◌⊎◌, ℕ, List, [], Option, Some, None, Ok, Err, IfSome}
 use Rattle.std.specs.Io.KnownBytes.{Appends, Keeps}
-use Rattle.fc_base.specs.Devices.{Held, HasRisen, last_count}
+use Rattle.fc_base.specs.Devices.{Held, Puts}
+use Rattle.fc_base.specs.declared.faults.DeviceFault.TheVariants.{Failed}
 use Rattle.document_outcomes.specs.Typed.{no_features}
 use Rattle.fcdoc_core.specs.declared.status.Status.{Status}
 use Rattle.fcdoc_core.specs.declared.status.Status.TheVariants.{Done, SomeRefused, Usage, Missing, DocumentRefused, ScriptRefused, StoreFault, SinkFault, Memory}
-use Rattle.fcdoc_core.specs.Delivery.{GaveLess, GaveFront}
-use Rattle.fcdoc_core.specs.Top.{Top, text_of, top}
+use Rattle.fcdoc_core.specs.Causes.{Counts, NoneFailed, StoreFailed, SinkFailed, AreHonest, counts}
+use Rattle.fcdoc_core.specs.Delivery.{GaveLess, GaveFront, calls_begun}
+use Rattle.fcdoc_core.specs.FeatureRuns.{FeatureRuns, RanFor, RanAtMostFor}
+use Rattle.fcdoc_core.specs.Top.{Files, Top, all_calls, files_in, text_of, top, top_of_form}
+use Rattle.fcdoc_core.specs.Words.{form_of}
 
--- this holds of the meaning of the words, where the store tells what it holds
-abbrev pub OfMeaning : Option Held → List (List ℕ) → (Top → Type 0) → Type 0
-OfMeaning known words P = IfSome known (λ held. P (top [] no_features words held))
+-- What a run found and left: its status; what the store tells that it holds, and the sink that it was
+-- given, before and after; the counts of faults of both; and how often each feature at hand was run.
+pub record Run : Type 0 where
+  pub status : Status
+  pub held : Option Held
+  pub held_after : Option Held
+  pub written : Option (List ℕ)
+  pub written_after : Option (List ℕ)
+  pub faults : Counts
+  pub runs : List FeatureRuns
+  pub runs_after : List FeatureRuns
 
--- the status is that of the meaning, and the sink was given its whole text
-pub record GaveAll (t : Top) (status : Status) (before after : Option (List ℕ)) : Type 0 where
-  pub status_is : status ≡ t.status
-  pub text : Appends before after (text_of t)
+-- a run by its status, and then before and after: what was held, what was written, and the counts of faults
+-- of the store and of the sink. No feature is handed in yet.
+abbrev pub run_of : Status → Option Held → Option Held → Option (List ℕ) → Option (List ℕ) → ℕ → ℕ → ℕ → ℕ → Run
+run_of status held held_after written written_after store store_after sink sink_after = record {
+  status = status;
+  held = held;
+  held_after = held_after;
+  written = written;
+  written_after = written_after;
+  faults = counts store store_after sink sink_after;
+  runs = [];
+  runs_after = [];
+}
 
--- What was written, by the status: all of the defined text with the defined status; behind a fault
--- of the sink a proper front of it; behind a fault of the store nothing; without memory a front.
-abbrev pub Writes : Top → Status → Option (List ℕ) → Option (List ℕ) → Type 0
-Writes t Done before after = GaveAll t Done before after
-Writes t SomeRefused before after = GaveAll t SomeRefused before after
-Writes t Usage before after = GaveAll t Usage before after
-Writes t Missing before after = GaveAll t Missing before after
-Writes t DocumentRefused before after = GaveAll t DocumentRefused before after
-Writes t ScriptRefused before after = GaveAll t ScriptRefused before after
-Writes t StoreFault before after = Keeps before after
-Writes t SinkFault before after = GaveLess (text_of t) before after
-Writes t Memory before after = GaveFront (text_of t) before after
+-- the store holds what it held, and the put where there is one
+abbrev pub HasPut : Option (List ℕ × List ℕ) → Option Held → Option Held → Type 0
+HasPut None before after = after ≡ before
+HasPut (Some p) before after = Puts before p.0 p.1 (Ok tt) after
 
--- The counts of faults of a store and of a sink, before and after.
-pub record Counts : Type 0 where
-  pub store_before : ℕ
-  pub store_after : ℕ
-  pub sink_before : ℕ
-  pub sink_after : ℕ
+-- there is a put, and it failed: under every other name stands what stood there
+abbrev pub HasFailedPut : Option (List ℕ × List ℕ) → Option Held → Option Held → Type 0
+HasFailedPut None before after = ⊥
+HasFailedPut (Some p) before after = Puts before p.0 p.1 (Err Failed) after
 
-abbrev pub counts : ℕ → ℕ → ℕ → ℕ → Counts
-counts store_before store_after sink_before sink_after =
-    record { store_before = store_before; store_after = store_after; sink_before = sink_before; sink_after = sink_after }
+-- all was written and put, and the status is the defined one
+pub record WroteAll (t : Top) (r : Run) : Type 0 where
+  pub status_is : r.status ≡ t.status
+  pub text : Appends r.written r.written_after (text_of t.pieces)
+  pub held : HasPut t.put r.held r.held_after
+  pub faults : NoneFailed r.faults
+  pub runs : RanFor (all_calls t) r.runs r.runs_after
 
--- no count rose
-pub record NoneFailed (c : Counts) : Type 0 where
-  pub store : c.store_after ≡ c.store_before
-  pub sink : c.sink_after ≡ c.sink_before
+-- The sink failed: it was given a proper front of the pieces, and the calls of that same front were made.
+pub record SinkStopped (t : Top) (r : Run) : Type 0 where
+  pub gave : GaveLess t.pieces r.written r.written_after
+  pub held : r.held_after ≡ r.held
+  pub faults : SinkFailed r.faults
+  pub runs : RanFor (calls_begun t gave.front) r.runs r.runs_after
 
--- the store failed, and not the sink
-pub record StoreFailed (c : Counts) : Type 0 where
-  pub store : HasRisen c.store_before c.store_after
-  pub sink : c.sink_after ≡ c.sink_before
+-- the store failed at a fetch, before anything was written or called
+pub record FetchStopped (r : Run) : Type 0 where
+  pub text : Keeps r.written r.written_after
+  pub held : r.held_after ≡ r.held
+  pub faults : StoreFailed r.faults
+  pub runs : r.runs_after ≡ r.runs
 
--- the sink failed, and not the store
-pub record SinkFailed (c : Counts) : Type 0 where
-  pub store : c.store_after ≡ c.store_before
-  pub sink : HasRisen c.sink_before c.sink_after
+-- the store failed at the put, when all was written
+pub record PutStopped (t : Top) (r : Run) : Type 0 where
+  pub text : Appends r.written r.written_after (text_of t.pieces)
+  pub held : HasFailedPut t.put r.held r.held_after
+  pub faults : StoreFailed r.faults
+  pub runs : RanFor (all_calls t) r.runs r.runs_after
 
--- a device is blamed only where its count of faults rose in this run, or stands at its last value
-abbrev pub HasCauses : Status → Counts → Type 0
-HasCauses Done c = NoneFailed c
-HasCauses SomeRefused c = NoneFailed c
-HasCauses Usage c = NoneFailed c
-HasCauses Missing c = NoneFailed c
-HasCauses DocumentRefused c = NoneFailed c
-HasCauses ScriptRefused c = NoneFailed c
-HasCauses StoreFault c = StoreFailed c
-HasCauses SinkFault c = SinkFailed c
-HasCauses Memory c = NoneFailed c
+-- Memory ran out: a front of the pieces was written, and no more calls were made than those of that same
+-- front.
+pub record RanOut (t : Top) (r : Run) : Type 0 where
+  pub gave : GaveFront t.pieces r.written r.written_after
+  pub held : r.held_after ≡ r.held
+  pub faults : NoneFailed r.faults
+  pub runs : RanAtMostFor (calls_begun t gave.front) r.runs r.runs_after
 
--- neither device failed, and neither has counted to its end
-pub record AreHonest (c : Counts) : Type 0 where
-  pub store : c.store_after ≡ c.store_before
-  pub store_end : c.store_after ≢ last_count
-  pub sink : c.sink_after ≡ c.sink_before
-  pub sink_end : c.sink_after ≢ last_count
+-- what is left of a run that means this, by its status
+abbrev pub LeavesAt : Status → Top → Run → Type 0
+LeavesAt Done t r = WroteAll t r
+LeavesAt SomeRefused t r = WroteAll t r
+LeavesAt Usage t r = WroteAll t r
+LeavesAt Missing t r = WroteAll t r
+LeavesAt DocumentRefused t r = WroteAll t r
+LeavesAt ScriptRefused t r = WroteAll t r
+LeavesAt StoreFault t r = FetchStopped r ⊎ PutStopped t r
+LeavesAt SinkFault t r = SinkStopped t r
+LeavesAt Memory t r = RanOut t r
+
+abbrev pub Leaves : Top → Run → Type 0
+Leaves t r = LeavesAt r.status t r
+
+-- a run of these words leaves what their meaning says, where the store tells what it holds
+abbrev pub Headline : List (List ℕ) → Run → Type 0
+Headline words r = IfSome r.held (λ held. Leaves (top [] no_features words held) r)
+
+-- there are files for which a run of these words leaves what their meaning says, whatever the store tells
+pub record ForFiles (words : List (List ℕ)) (r : Run) : Type 0 where
+  pub files : Files
+  pub leaves : Leaves (top_of_form [] no_features (form_of words) files) r
 
 -- honest devices get the defined status, or there was no memory
-abbrev pub IsComplete : Top → Status → Counts → Type 0
-IsComplete t status c = AreHonest c → (status ≡ t.status) ⊎ (status ≡ Memory)
+abbrev pub IsComplete : Top → Run → Type 0
+IsComplete t r = AreHonest r.faults → (r.status ≡ t.status) ⊎ (r.status ≡ Memory)
 
--- how a run ends whose words have no form: the store is never blamed
-pub record EndsAsUsage (status : Status) (c : Counts) : Type 0 where
-  pub ends : (status ≡ Usage) ⊎ ((status ≡ SinkFault) ⊎ (status ≡ Memory))
-  pub store : c.store_after ≡ c.store_before
+-- the same of the meaning of the words, where the store tells what it holds
+abbrev pub Complete : List (List ℕ) → Run → Type 0
+Complete words r = IfSome r.held (λ held. IsComplete (top [] no_features words held) r)

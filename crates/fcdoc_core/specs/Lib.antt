@@ -1,7 +1,8 @@
 pub mod Commands
 pub mod Spelling
+pub mod Causes
 pub mod Delivery
-pub mod Files
+pub mod FeatureRuns
 pub mod Headline
 pub mod Machine
 pub mod OpenFaults
@@ -16,3 +17,5 @@ pub mod StepFaults
 pub mod Stepping
 pub mod Top
 pub mod Words
+pub mod WorkedRuns
+pub mod WorkedSession

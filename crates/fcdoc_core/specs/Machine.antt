@@ -1,6 +1,6 @@
 -- What a script means: a machine that runs command by command on whole documents, and works
 -- everything out from the document alone.
-use Rattle.std.specs.Prelude.{ℕ, List, [], ◌∷◌, length, Bool, true, false, if◌then◌else◌, Option, None, Some, Result, Ok, Err}
+use Rattle.std.specs.Prelude.{ℕ, List, [], ◌∷◌, map, length, Bool, true, false, if◌then◌else◌, Option, None, Some, Result, Ok, Err}
 use Rattle.std.specs.Result.{is_err}
 use Rattle.object_paths.specs.declared.path.Path.{Path}
 use Rattle.object_paths.specs.Slots.{Slot}
@@ -17,6 +17,8 @@ use Rattle.recompute.specs.Kept.{faults_of}
 use Rattle.doc_rules.specs.declared.refusal.Refusal.{Refusal}
 use Rattle.doc_rules.specs.Commanded.{refused, slot_commanded}
 use Rattle.doc_rules.specs.Edits.{Accepted, edited}
+use Rattle.doc_rules.specs.declared.edit.Edit.{Edit}
+use Rattle.doc_rules.specs.declared.edit.Edit.TheVariants.{SetValue, Bind}
 use Rattle.fcdoc_core.specs.declared.command.Command.{Command}
 use Rattle.fcdoc_core.specs.declared.command.Command.TheVariants as command
 use Rattle.fcdoc_core.specs.declared.reply.Reply.{Reply}
@@ -30,10 +32,25 @@ pub record State : Type 0 where
   pub last : List Entry
   pub clean : Bool
 
--- A state, and the answer that led to it.
+-- What a command does: the state behind it, its answer, and the features that it calls, each by the
+-- type of its plan, once for each call.
 pub record Stepped : Type 0 where
   pub state : State
   pub answer : Result Reply Refusal
+  pub calls : List (List ℕ)
+
+-- What a session is seen as: the plans of the features at hand, and a state of the machine.
+pub record SessionView : Type 0 where
+  pub plans : List Slots
+  pub state : State
+
+-- the session of a state, with no feature at hand
+abbrev pub session_of : State → SessionView
+session_of s = record { plans = []; state = s }
+
+-- the session in another state, with the features that it had
+abbrev pub moved_to : SessionView → State → SessionView
+moved_to v s = record v { state = s }
 
 -- the state of a document that was read
 abbrev pub first_state : Document → State
@@ -41,9 +58,9 @@ first_state d = record { now = d; last = []; clean = false }
 
 -- ---- the commands
 
--- an answer that changes nothing
+-- an answer that changes nothing, and for which no feature is called
 abbrev pub asked : State → Result Reply Refusal → Stepped
-asked s answer = record { state = s; answer = answer }
+asked s answer = record { state = s; answer = answer; calls = [] }
 
 -- what is worked out of a slot, 28 where there was an edit since the last recompute
 abbrev pub worked_out : Meanings → State → Slot → Result Reply Refusal
@@ -75,21 +92,28 @@ expression_by_rule (Some (output k)) = None
 abbrev pub expression_told : Document → Path → Result Reply Refusal
 expression_told d path = on_one (λ slot. Ok (reply.Expression (expression_by_rule (rule_of d slot)))) (slot_commanded d path)
 
--- an edit: a refused one changes nothing
-abbrev pub edited_to : State → Result Accepted Refusal → Stepped
-edited_to s (Ok a) = record { state = record s { now = a.document; clean = false }; answer = Ok reply.Ok }
-edited_to s (Err r) = record { state = s; answer = Err r }
+-- the reply to an edit that was made, by how many references were written anew
+abbrev pub reply_of_edit : Edit → ℕ → Reply
+reply_of_edit (SetValue path text) references = reply.Ok
+reply_of_edit (Bind path text) references = reply.Ok
 
--- `recompute`: how many features are called and how many slots have a fault
+-- an edit: a refused one changes nothing
+abbrev pub edited_to : State → Edit → Result Accepted Refusal → Stepped
+edited_to s edit (Ok a) = record { state = record s { now = a.document; clean = false }; answer = Ok (reply_of_edit edit a.references); calls = [] }
+edited_to s edit (Err r) = asked s (Err r)
+
+-- `recompute`: the features are called whose input lists are not those of the last recompute; the reply
+-- tells how many calls these are, and how many slots have a fault
 abbrev pub recomputed : Meanings → State → Stepped
 recomputed m s = record {
   state = record { now = s.now; last = input_lists m s.now; clean = true };
   answer = Ok (reply.Recomputed (record { calls = length (called m s.last s.now); faults = faults_of m s.now }));
+  calls = map (λ (e : Entry). e.type_name) (called m s.last s.now);
 }
 
 -- one command, by the plans of the features at hand, and what features and placements give
 abbrev pub step : List Slots → Meanings → State → Command → Stepped
-step plans m s (command.Edit edit) = edited_to s (edited plans m s.clean s.now edit)
+step plans m s (command.Edit edit) = edited_to s edit (edited plans m s.clean s.now edit)
 step plans m s (command.Get path) = asked s (got m s path)
 step plans m s (command.Expression path) = asked s (expression_told s.now path)
 step plans m s command.Recompute = recomputed m s
@@ -104,14 +128,19 @@ step_by plans m s (Some c) = step plans m s c
 abbrev pub step_line : List Slots → Meanings → State → List ℕ → Stepped
 step_line plans m s line = step_by plans m s (command_of line)
 
--- the answers to the lines, one after another
-abbrev pub answers : List Slots → Meanings → State → List (List ℕ) → List (Result Reply Refusal)
-answers plans m s [] = []
-answers plans m s (line ∷ lines) = (step_line plans m s line).answer ∷ answers plans m (step_line plans m s line).state lines
+-- what the lines do, one after another
+abbrev pub stepped : List Slots → Meanings → State → List (List ℕ) → List Stepped
+stepped plans m s [] = []
+stepped plans m s (line ∷ lines) = step_line plans m s line ∷ stepped plans m (step_line plans m s line).state lines
 
--- an answer that is a refusal
-abbrev pub is_refusal : Result Reply Refusal → Bool
-is_refusal answer = is_err answer
+-- the state behind all lines
+abbrev pub state_behind : List Slots → Meanings → State → List (List ℕ) → State
+state_behind plans m s [] = s
+state_behind plans m s (line ∷ lines) = state_behind plans m (step_line plans m s line).state lines
+
+-- a command whose answer is a refusal
+abbrev pub is_refused : Stepped → Bool
+is_refused t = is_err t.answer
 
 -- ---- the steps of a command
 

@@ -6,7 +6,7 @@ use Rattle.doc_rules.specs.Found.{IsFault}
 use Rattle.fcdoc_file.specs.Loading.{Unloaded, malformed, not_built, loaded}
 use Rattle.fcdoc_core.specs.declared.open_fault.OpenFault.{OpenFault}
 use Rattle.fcdoc_core.specs.declared.open_fault.OpenFault.TheVariants.{NotBuilt, Load, Doc, Memory}
-use Rattle.fcdoc_core.specs.Machine.{State, first_state}
+use Rattle.fcdoc_core.specs.Machine.{State, SessionView, first_state, session_of}
 
 -- Why a document is not opened: the bytes are the text of none, or the document has a fault.
 pub data Unopened : Type 0 where
@@ -40,9 +40,10 @@ IsUnopened (faulty f) (Load told) = ⊥
 IsUnopened (faulty f) (Doc told) = IsFault f told
 IsUnopened (faulty f) (Memory e) = Unit {0}
 
--- the state, or why there is none, as a call tells it; want of memory says nothing of the bytes
-abbrev pub Opens : Result State Unopened → Result State OpenFault → Type 0
-Opens (Ok s) (Ok told) = told ≡ s
+-- the session of the state, with no feature at hand, or why there is none, as a call tells it; want of
+-- memory says nothing of the bytes
+abbrev pub Opens : Result State Unopened → Result SessionView OpenFault → Type 0
+Opens (Ok s) (Ok told) = told ≡ session_of s
 Opens (Err u) (Ok told) = ⊥
 Opens (Err u) (Err fault) = IsUnopened u fault
 Opens (Ok s) (Err NotBuilt) = ⊥

@@ -4,13 +4,13 @@ use Rattle.fcdoc_core.specs.declared.reply.Reply.{Reply}
 use Rattle.fcdoc_core.specs.declared.step_fault.StepFault.{StepFault}
 use Rattle.fcdoc_core.specs.declared.step_fault.StepFault.TheVariants.{Refused, Memory}
 use Rattle.doc_rules.specs.declared.refusal.Refusal.{Refusal}
-use Rattle.fcdoc_core.specs.Machine.{State, Stepped}
+use Rattle.fcdoc_core.specs.Machine.{SessionView, Stepped, moved_to}
 
 -- The session stands for the state behind the step, and tells its reply or its refusal. Without
--- memory it stands for the state that it stood for.
-abbrev pub MeetsStep : State → State → Stepped → Result Reply StepFault → Type 0
-MeetsStep before after t (Ok told) = (after ≡ t.state) × (t.answer ≡ Ok told)
-MeetsStep before after t (Err (Refused told)) = (after ≡ t.state) × (t.answer ≡ Err told)
+-- memory it stands for the state that it stood for. Its features are the same in any case.
+abbrev pub MeetsStep : SessionView → SessionView → Stepped → Result Reply StepFault → Type 0
+MeetsStep before after t (Ok told) = (after ≡ moved_to before t.state) × (t.answer ≡ Ok told)
+MeetsStep before after t (Err (Refused told)) = (after ≡ moved_to before t.state) × (t.answer ≡ Err told)
 MeetsStep before after t (Err (Memory e)) = after ≡ before
 
 -- an answer alone, as a call tells it; want of memory says nothing of it

@@ -7,10 +7,18 @@ pub record Names : Type 0 where
   pub document : List ℕ
   pub script : List ℕ
 
--- the names in the words `run DOC SCRIPT`
-abbrev pub names_of : List (List ℕ) → Option Names
-names_of [] = None
-names_of (a ∷ []) = None
-names_of (a ∷ b ∷ []) = None
-names_of (a ∷ b ∷ c ∷ []) = if bytes_eq a (codes "run") then Some (record { document = b; script = c }) else None
-names_of (a ∷ b ∷ c ∷ d ∷ more) = None
+-- The forms of a run. The one of today is `run DOC SCRIPT`.
+pub data Form : Type 0 where
+  run : Names → Form
+
+-- three words, of which the first names the form
+abbrev pub form_of_three : List ℕ → List ℕ → List ℕ → Option Form
+form_of_three verb a b = if bytes_eq verb (codes "run") then Some (run (record { document = a; script = b })) else None
+
+-- the form that the words have, or none
+abbrev pub form_of : List (List ℕ) → Option Form
+form_of [] = None
+form_of (a ∷ []) = None
+form_of (a ∷ b ∷ []) = None
+form_of (a ∷ b ∷ c ∷ []) = form_of_three a b c
+form_of (a ∷ b ∷ c ∷ d ∷ more) = None

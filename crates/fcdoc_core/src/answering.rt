@@ -3,7 +3,7 @@
 ghost use Rattle.std.specs.Prelude.{◌≡◌, [], IfOk, Ok, Err, true, false};
 ghost use Rattle.document_outcomes.specs.Typed.{no_features};
 ghost use Rattle.doc_rules.specs.Edits.{IsNamed};
-ghost use Rattle.fcdoc_core.specs.Machine.{is_refusal, step, step_line};
+ghost use Rattle.fcdoc_core.specs.Machine.{is_refused, moved_to, step, step_line};
 ghost use Rattle.fcdoc_core.specs.Replies.{answer_text};
 
 use crate::command::{Command, CommandFault};
@@ -52,9 +52,9 @@ fn answer_to_command<L>(
     command: &Command,
     steps: &mut Steps<L>,
 ) -> Result<Answer, AllocError>
-    ensures text { IfOk result (λ a. a.text.items ≡ answer_text (step [] no_features session.old command.now).answer) }
-    ensures refused { IfOk result (λ a. a.is_refusal ≡ is_refusal (step [] no_features session.old command.now).answer) }
-    ensures state { IfOk result (λ _. session.new ≡ (step [] no_features session.old command.now).state) }
+    ensures text { IfOk result (λ a. a.text.items ≡ answer_text (step session.old.plans no_features session.old.state command.now).answer) }
+    ensures refused { IfOk result (λ a. a.is_refusal ≡ is_refused (step session.old.plans no_features session.old.state command.now)) }
+    ensures state { IfOk result (λ _. session.new ≡ moved_to session.old (step session.old.plans no_features session.old.state command.now).state) }
 {
     match session.step(command, steps) {
         Ok(reply) => told(alloc, &reply),
@@ -70,9 +70,9 @@ pub(crate) fn answer_to<L>(
     line: &str,
     steps: &mut Steps<L>,
 ) -> Result<Answer, AllocError>
-    ensures text { IfOk result (λ a. a.text.items ≡ answer_text (step_line [] no_features session.old line.now).answer) }
-    ensures refused { IfOk result (λ a. a.is_refusal ≡ is_refusal (step_line [] no_features session.old line.now).answer) }
-    ensures state { IfOk result (λ _. session.new ≡ (step_line [] no_features session.old line.now).state) }
+    ensures text { IfOk result (λ a. a.text.items ≡ answer_text (step_line session.old.plans no_features session.old.state line.now).answer) }
+    ensures refused { IfOk result (λ a. a.is_refusal ≡ is_refused (step_line session.old.plans no_features session.old.state line.now)) }
+    ensures state { IfOk result (λ _. session.new ≡ moved_to session.old (step_line session.old.plans no_features session.old.state line.now).state) }
 {
     match Command::read(alloc, line) {
         Ok(command) => answer_to_command(alloc, session, &command, steps),

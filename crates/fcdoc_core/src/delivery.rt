@@ -2,7 +2,7 @@
 
 ghost use Rattle.std.specs.Prelude.{◌≡◌, [], map, string_bytes, IsTrue, IfOk};
 ghost use Rattle.document_outcomes.specs.Typed.{no_features};
-ghost use Rattle.fcdoc_core.specs.Machine.{answers, is_refusal, step_line};
+ghost use Rattle.fcdoc_core.specs.Machine.{is_refused, moved_to, step_line, stepped};
 ghost use Rattle.fcdoc_core.specs.Replies.{answer_text};
 ghost use Rattle.fcdoc_core.specs.Plans.{Delivers, Speaks, Tells, is_end, top_of_plan};
 ghost use Rattle.fcdoc_core.specs.Scripts.{with_replies};
@@ -51,9 +51,9 @@ fn reply_to<K: Sink>(
     line: &str,
     out: &mut K,
 ) -> Result<bool, Stop>
-    ensures told { let answer = (step_line [] no_features session.old line.now).answer in
-        Tells (answer_text answer) (λ refused. refused ≡ is_refusal answer) result (K.written out.old) (K.written out.new) (K.faults out.old) (K.faults out.new) }
-    ensures state { IfOk result (λ _. session.new ≡ (step_line [] no_features session.old line.now).state) }
+    ensures told { let step = step_line session.old.plans no_features session.old.state line.now in
+        Tells (answer_text step.answer) (λ refused. refused ≡ is_refused step) result (K.written out.old) (K.written out.new) (K.faults out.old) (K.faults out.new) }
+    ensures state { IfOk result (λ _. session.new ≡ moved_to session.old (step_line session.old.plans no_features session.old.state line.now).state) }
 {
     let answer = answer_to(alloc, session, line, &mut Steps::new(()))?;
     say(out, answer.text.as_slice())?;
@@ -68,7 +68,7 @@ fn reply_to_all<K: Sink>(
     lines: &[String],
     out: &mut K,
 ) -> Result<Status, Stop>
-    ensures { Speaks (replies_of (answers [] no_features session.old (with_replies (map string_bytes lines.now)))) result (K.written out.old) (K.written out.new) (K.faults out.old) (K.faults out.new) }
+    ensures { Speaks (replies_of (stepped session.old.plans no_features session.old.state (with_replies (map string_bytes lines.now)))) result (K.written out.old) (K.written out.new) (K.faults out.old) (K.faults out.new) }
 {
     let mut refused = false;
     for line in lines {

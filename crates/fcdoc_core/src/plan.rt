@@ -2,16 +2,16 @@
 
 ghost use Rattle.std.specs.Prelude.{◌≡◌, ◌++◌, [], map, codes, Option, None, Some, IfOk, IfSome, IsNone, IsSome, OnErr, string_bytes, Ok, Err};
 ghost use Rattle.fc_base.specs.Devices.{Fetches};
-ghost use Rattle.fcdoc_core.specs.Plans.{Means, MeansFiles, MeansNames, MeansScript, CountsStop, IsFound, IsWithin, top_of_plan};
+ghost use Rattle.fcdoc_core.specs.Plans.{MeansForm, MeansScript, CountsStop, IsFound, IsWithin, top_of_plan};
 ghost use Rattle.fcdoc_core.specs.ScriptFaults.{cause_told};
 ghost use Rattle.fcdoc_core.specs.Scripts.{script_of};
 ghost use Rattle.document_outcomes.specs.Typed.{no_features};
 ghost use Rattle.fcdoc_core.specs.OpenFaults.{HasLine, open_fault_text};
 ghost use Rattle.fcdoc_core.specs.declared.status.Status.TheVariants.{DocumentRefused};
 ghost use Rattle.fcdoc_core.specs.Opening.{opened_of};
-ghost use Rattle.fcdoc_core.specs.Top.{missing, one_piece, script_refused, top, top_of_lines, top_of_names, top_of_state};
-ghost use Rattle.std.specs.FinMap.{get};
-ghost use Rattle.fcdoc_core.specs.Words.{names_of};
+ghost use Rattle.fcdoc_core.specs.Top.{missing, one_piece, script_refused, top_of_lines};
+ghost use Rattle.std.specs.Option.{option_map};
+ghost use Rattle.fcdoc_core.specs.Words.{form_of, run};
 
 use crate::open_fault::OpenFault;
 use crate::script::Script;
@@ -93,7 +93,7 @@ fn script_refused(alloc: Global, fault: &ScriptFault) -> Result<Plan, Stop>
 
 /// What follows for a session and the bytes of a script, within the limit.
 fn plan_of_script(alloc: Global, session: Session, bytes: &[u8]) -> Result<Plan, Stop>
-    ensures plan { IfOk result (λ plan. top_of_plan plan ≡ top_of_lines [] no_features session (script_of bytes.now)) }
+    ensures plan { IfOk result (λ plan. top_of_plan plan ≡ top_of_lines session.plans no_features session.state (script_of bytes.now)) }
     ensures stop { OnErr result (result ≡ Err Stop.Memory) }
 {
     match Script::read(alloc, bytes) {
@@ -110,8 +110,7 @@ fn plan_of_session<S: Store>(
     session: Session,
     script: &str,
 ) -> Result<Plan, Stop>
-    ensures told { IfOk result (Means (S.holds store.old) (λ held. top_of_state [] no_features script.now (get held script.now) (Ok session))) }
-    ensures means { IfOk result (MeansScript script.now (Ok session)) }
+    ensures means { IfOk result (MeansScript session.plans (S.holds store.old) script.now (Ok session.state)) }
     ensures holds { S.holds store.new ≡ S.holds store.old }
     ensures count { CountsStop result (S.faults store.old) (S.faults store.new) }
 {
@@ -130,8 +129,7 @@ fn plan_of_document<S: Store>(
     document: &[u8],
     script: &str,
 ) -> Result<Plan, Stop>
-    ensures told { IfOk result (Means (S.holds store.old) (λ held. top_of_state [] no_features script.now (get held script.now) (opened_of document.now))) }
-    ensures means { IfOk result (MeansScript script.now (opened_of document.now)) }
+    ensures means { IfOk result (MeansScript [] (S.holds store.old) script.now (opened_of document.now)) }
     ensures holds { S.holds store.new ≡ S.holds store.old }
     ensures count { CountsStop result (S.faults store.old) (S.faults store.new) }
 {
@@ -149,8 +147,7 @@ fn plan_of_names<S: Store>(
     document: &str,
     script: &str,
 ) -> Result<Plan, Stop>
-    ensures told { IfOk result (Means (S.holds store.old) (λ held. top_of_names [] no_features (record { document = document.now; script = script.now }) (get held document.now) (get held script.now))) }
-    ensures means { IfOk result (MeansNames (record { document = document.now; script = script.now })) }
+    ensures means { IfOk result (MeansForm (S.holds store.old) (Some (run (record { document = document.now; script = script.now })))) }
     ensures holds { S.holds store.new ≡ S.holds store.old }
     ensures count { CountsStop result (S.faults store.old) (S.faults store.new) }
 {
@@ -162,22 +159,30 @@ fn plan_of_names<S: Store>(
     }
 }
 
+/// The names of the document and of the script in the words `run DOC SCRIPT`.
+fn names_in(words: &[String]) -> Option<(&str, &str)>
+    ensures { form_of (map string_bytes words.now) ≡ option_map (λ names. run (record { document = names.0.now; script = names.1.now })) result }
+{
+    if words.len() == 3 && words[0].as_str() == "run" {
+        Some((words[1].as_str(), words[2].as_str()))
+    } else {
+        None
+    }
+}
+
 /// What a run of these words is to write.
-#[tactic(auto, unfolding(crate::specs::Top::top))]
 pub(crate) fn plan_of_words<S: Store>(
     alloc: Global,
     words: &[String],
     store: &mut S,
 ) -> Result<Plan, Stop>
-    ensures told { IfOk result (Means (S.holds store.old) (top [] no_features (map string_bytes words.now))) }
-    ensures means { IfOk result (MeansFiles (names_of (map string_bytes words.now))) }
-    ensures usage { IsNone (names_of (map string_bytes words.now)) → result ≡ Ok Plan.Usage }
+    ensures means { IfOk result (MeansForm (S.holds store.old) (form_of (map string_bytes words.now))) }
+    ensures usage { IsNone (form_of (map string_bytes words.now)) → result ≡ Ok Plan.Usage }
     ensures holds { S.holds store.new ≡ S.holds store.old }
     ensures count { CountsStop result (S.faults store.old) (S.faults store.new) }
 {
-    if words.len() == 3 && words[0].as_str() == "run" {
-        plan_of_names(alloc, store, words[1].as_str(), words[2].as_str())
-    } else {
-        Ok(Plan::Usage)
+    match names_in(words) {
+        Some((document, script)) => plan_of_names(alloc, store, document, script),
+        None => Ok(Plan::Usage),
     }
 }

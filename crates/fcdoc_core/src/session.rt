@@ -7,7 +7,7 @@ ghost use Rattle.doc_rules.specs.Edits.{IsNamed, edited};
 ghost use Rattle.doc_rules.specs.Refusals.{is_refusal_number};
 ghost use Rattle.fcdoc_core.specs.declared.open_fault.OpenFault.TheVariants.{Doc};
 ghost use Rattle.fcdoc_core.specs.declared.step_fault.StepFault.TheVariants.{Refused};
-ghost use Rattle.fcdoc_core.specs.Machine.{edited_to, most_steps, recomputed, step};
+ghost use Rattle.fcdoc_core.specs.Machine.{edited_to, most_steps, recomputed, reply_of_edit, step};
 ghost use Rattle.fcdoc_core.specs.Opening.{Opens, opened_of};
 ghost use Rattle.fcdoc_core.specs.Stepping.{MeetsStep};
 
@@ -25,8 +25,9 @@ use recompute::Values;
 use std::alloc::Global;
 use std::marker::Model;
 
-/// A document that is edited, asked and recomputed, command by command. It is seen as the state of a
-/// machine that keeps the whole document and works everything out from it alone.
+/// A document that is edited, asked and recomputed, command by command. It is seen as the plans of the
+/// features at hand, none yet, and the state of a machine that keeps the whole document and works
+/// everything out from it alone.
 #[derive(Drop)]
 pub struct Session {
     alloc: Global,
@@ -40,17 +41,26 @@ pub struct Session {
 impl Model for Session {
     ghost use Rattle.std.specs.Coded.{codes};
     ghost use Rattle.expr_tree.specs.contracts.expr.Expr as e;
-    ghost use Rattle.fcdoc_core.specs.Machine.{State};
+    ghost use Rattle.fcdoc_core.specs.Machine.{SessionView};
 
-    ghost Value = { State };
+    ghost Value = { SessionView };
 
     ghost coded = { Prim.hlevel (codes, e.the_row.coded) };
 
-    ghost use Rattle.fcdoc_core.specs.Sessions.{IsSession, state_held};
+    ghost use Rattle.fcdoc_core.specs.Sessions.{IsSession, view_held};
 
-    ghost view = { state_held };
+    ghost view = { view_held };
 
     ghost invariant = { IsSession };
+}
+
+/// The reply to an edit that was made, by how many references were written anew.
+fn reply_of_edit(edit: &Edit, _references: u64) -> Reply
+    ensures { result ≡ reply_of_edit edit.now _references }
+{
+    match edit {
+        Edit::SetValue { .. } | Edit::Bind { .. } => Reply::Ok,
+    }
 }
 
 impl Session {
@@ -88,10 +98,11 @@ impl Session {
     /// An edit copies and checks the whole document, and a recompute evaluates all its expressions, so
     /// both take time that grows with it.
     pub fn step<L>(&mut self, command: &Command, steps: &mut Steps<L>) -> Result<Reply, StepFault>
-        ensures exact { MeetsStep self.old self.new (step [] no_features self.old command.now) result }
+        ensures exact { MeetsStep self.old self.new (step self.old.plans no_features self.old.state command.now) result }
+        ensures featureless { self.old.plans ≡ [] }
         ensures named { (r : Refusal) → result ≡ Err (Refused r) → IsNamed r }
         ensures never_less { steps.old ≤ steps.new }
-        ensures at_most { steps.new ≤ min (steps.old + most_steps self.old command.now) (2 ^ 64 - 1) }
+        ensures at_most { steps.new ≤ min (steps.old + most_steps self.old.state command.now) (2 ^ 64 - 1) }
     {
         steps.is_bounded(); // for the proof
         match command {
@@ -110,21 +121,23 @@ impl Session {
 
     /// Makes an edit.
     fn edit(&mut self, edit: &Edit) -> Result<Reply, StepFault>
-        ensures exact { MeetsStep self.old self.new (edited_to self.old (edited [] no_features self.old.clean self.old.now edit.now)) result }
+        ensures exact { MeetsStep self.old self.new (edited_to self.old.state edit.now (edited self.old.plans no_features self.old.state.clean self.old.state.now edit.now)) result }
+        ensures featureless { self.old.plans ≡ [] }
         ensures named { (r : Refusal) → result ≡ Err (Refused r) → IsNamed r }
     {
         let clean = self.clean.then_some(&self.values);
-        apply_edit(self.alloc, &mut self.tables, edit, clean)?;
+        let references = apply_edit(self.alloc, &mut self.tables, edit, clean)?;
         self.clean = false;
-        Ok(Reply::Ok)
+        Ok(reply_of_edit(edit, references))
     }
 
     /// Works the outcomes of all slots out.
     fn recompute<L>(&mut self, steps: &mut Steps<L>) -> Result<Reply, StepFault>
-        ensures exact { MeetsStep self.old self.new (recomputed no_features self.old) result }
+        ensures exact { MeetsStep self.old self.new (recomputed no_features self.old.state) result }
+        ensures featureless { self.old.plans ≡ [] }
         ensures named { (r : Refusal) → result ≡ Err (Refused r) → IsNamed r }
         ensures never_less { steps.old ≤ steps.new }
-        ensures at_most { steps.new ≤ min (steps.old + nodes_of_document self.old.now) (2 ^ 64 - 1) }
+        ensures at_most { steps.new ≤ min (steps.old + nodes_of_document self.old.state.now) (2 ^ 64 - 1) }
     {
         self.tables.holds_var_sets(); // for the proof
         let report = self.values.recompute(&self.tables, steps)?;

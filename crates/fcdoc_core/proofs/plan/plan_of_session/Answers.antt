@@ -1,10 +1,22 @@
-use Rattle.std.proofs.Common.{subst}
-use Rattle.fcdoc_core.specs.Plans.{IsWithin}
-use Rattle.fcdoc_core.proofs.FilesLemmas.{script_found, long_script}
+use Rattle.std.proofs.Common.{subst, IfSome}
+use Rattle.fcdoc_core.specs.declared.plan.Found.{Found}
+use Rattle.fcdoc_core.specs.Plans.{IsFound, IsWithin}
+use Rattle.fcdoc_core.proofs.FilesLemmas.{bytes_there, script_found, long_script, script_missing}
 use Rattle.fcdoc_core.proofs.plan.plan_of_session.Goals as goal
 
 pub returns-in-Ok-Bytes-clause-means : goal.returns-in-Ok-Bytes-clause-means
-returns-in-Ok-Bytes-clause-means g c = script_found _ c.deref.result.now _ c.plan_of_script.result (rw c.deref.ensures.value (subst IsWithin c.in-Ok-Bytes.field-0-is c.in-Ok-Bytes.ensures.within)) c.plan_of_script.ensures.plan
+returns-in-Ok-Bytes-clause-means g c =
+    let known = g.S.Store.holds c.args.store.now in
+    script_found _ known c.args.script.now c.deref.result.now _ c.plan_of_script.result
+    (rw c.deref.ensures.value (bytes_there known c.args.script.now c.in-Ok-Bytes.bytes (subst (λ (f : Found). IfSome known (λ held. IsFound held c.args.script.now f)) c.in-Ok-Bytes.field-0-is c.in-Ok-Bytes.ensures.told)))
+    (rw c.deref.ensures.value (subst IsWithin c.in-Ok-Bytes.field-0-is c.in-Ok-Bytes.ensures.within)) c.plan_of_script.ensures.plan
 
 pub returns-in-Ok-TooLong-clause-means : goal.returns-in-Ok-TooLong-clause-means
-returns-in-Ok-TooLong-clause-means g c = long_script _ _
+returns-in-Ok-TooLong-clause-means g c =
+    let known = g.S.Store.holds c.args.store.now in
+    long_script _ known c.args.script.now _ (subst (λ (f : Found). IfSome known (λ held. IsFound held c.args.script.now f)) c.in-Ok-TooLong.field-0-is c.in-Ok-TooLong.ensures.told)
+
+pub returns-in-Ok-Nothing-clause-means : goal.returns-in-Ok-Nothing-clause-means
+returns-in-Ok-Nothing-clause-means g c =
+    let known = g.S.Store.holds c.args.store.now in
+    script_missing _ known c.args.script.now _ c.missing.result (subst (λ (f : Found). IfSome known (λ held. IsFound held c.args.script.now f)) c.in-Ok-Nothing.field-0-is c.in-Ok-Nothing.ensures.told) c.missing.ensures.plan
