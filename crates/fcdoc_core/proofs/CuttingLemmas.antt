@@ -1,8 +1,8 @@
--- Spaces at the ends of a text, and the first space in it.
+-- Spaces at the ends of a text, and the label in front of it.
 use Rattle.std.proofs.Common.{◌≡◌, ◌≢◌, ℕ, List, [], ◌∷◌, ◌++◌, true, false, cond, ◌==◌, reverse, refl, sym, ap, ◌∙◌}
 use Rattle.std.proofs.lemmas.Bool.{eqb-true}
 use Rattle.std.proofs.lemmas.List.{reverse-append, reverse-reverse}
-use Rattle.fcdoc_core.specs.Commands.{after_spaces, first_word, behind_word, parts_of}
+use Rattle.fcdoc_core.specs.Commands.{after_spaces}
 
 -- one space less in front changes nothing
 pub after_spaces-step : (text rest : List ℕ) → text ≡ 32 ∷ rest → after_spaces rest ≡ after_spaces text
@@ -25,8 +25,3 @@ pub before_spaces-done : (text : List ℕ) → ((front : List ℕ) → text ≢ 
 before_spaces-done text none =
     ap reverse (after_spaces-done (reverse text) (λ rest e. none (reverse rest) (sym (reverse-reverse text) ∙ ap reverse e ∙ reverse-append (32 ∷ []) rest)))
     ∙ reverse-reverse text
-
--- the parts of a line, cut off one by one
-pub parts-are : (line verb rest target tail : List ℕ) → verb ≡ first_word line → rest ≡ behind_word line → target ≡ first_word rest → tail ≡ behind_word rest
-    → record { verb = verb; target = target; tail = tail } ≡ parts_of line
-parts-are line verb rest target tail a b c d = rw (a, c, d, b) refl

@@ -8,5 +8,6 @@ pub mod ScriptLemmas
 pub mod SessionLemmas
 pub mod SpellingLemmas
 pub mod OpenLemmas
+pub mod WorkedLinesLemmas
 pub mod WorkedRunsLemmas
 pub mod WorkedSessionLemmas

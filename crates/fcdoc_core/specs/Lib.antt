@@ -17,5 +17,6 @@ pub mod StepFaults
 pub mod Stepping
 pub mod Top
 pub mod Words
+pub mod WorkedLines
 pub mod WorkedRuns
 pub mod WorkedSession

@@ -1,7 +1,9 @@
-//! Cuts lines into words.
+//! Cuts words and paths off the front of lines.
 
 ghost use Rattle.std.specs.Prelude.{◌≡◌, reverse, option_map};
-ghost use Rattle.fcdoc_core.specs.Commands.{after_spaces, behind_word, first_word, unspaced};
+ghost use Rattle.fcdoc_core.specs.Commands.{after_spaces, cut_path, cut_word, unspaced};
+
+use object_paths::{opened, until_closing};
 
 /// What follows the spaces in front.
 fn after_spaces(text: &str) -> &str
@@ -32,22 +34,30 @@ pub(crate) fn unspaced(text: &str) -> &str
     before_spaces(after_spaces(text))
 }
 
-/// What stands before the first space.
-pub(crate) fn first_word(line: &str) -> &str
-    ensures { result.now ≡ first_word line.now }
+/// The first word of a text without outer spaces, and what stands behind it, without outer spaces.
+pub(crate) fn cut_word(text: &str) -> (&str, &str)
+    ensures first { result.0.now ≡ (cut_word text.now).first }
+    ensures rest { result.1.now ≡ (cut_word text.now).rest }
 {
-    match line.split_once(' ') {
-        Some((word, _)) => word,
-        None => line,
+    match text.split_once(' ') {
+        Some((word, behind)) => (word, unspaced(behind)),
+        None => (text, ""),
     }
 }
 
-/// What stands behind the first space, without outer spaces.
-pub(crate) fn behind_word(line: &str) -> &str
-    ensures { result.now ≡ behind_word line.now }
+/// The path in front of a text without outer spaces, and what stands behind it: `<<a b>>.x` and `3`
+/// of `<<a b>>.x 3`. Where no label stands in front it is the first word.
+pub(crate) fn cut_path(text: &str) -> (&str, &str)
+    ensures first { result.0.now ≡ (cut_path text.now).first }
+    ensures rest { result.1.now ≡ (cut_path text.now).rest }
 {
-    match line.split_once(' ') {
-        Some((_, rest)) => unspaced(rest),
-        None => "",
-    }
+    let Some(opened) = opened(text) else {
+        return cut_word(text);
+    };
+    let Some((_, behind)) = until_closing(opened) else {
+        return cut_word(text);
+    };
+    let (end, rest) = cut_word(behind);
+    let (path, _) = text.split_at(text.len() - behind.len() + end.len());
+    (path, rest)
 }

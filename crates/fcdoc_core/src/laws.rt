@@ -5,6 +5,7 @@ ghost use Rattle.fcdoc_core.specs.declared.command.Command.{Command};
 ghost use Rattle.fcdoc_core.specs.Commands.{command_of};
 ghost use Rattle.fcdoc_core.specs.Delivery.{FrontsAreOfTheText};
 ghost use Rattle.fcdoc_core.specs.Spelling.{IsLineOf};
+ghost use Rattle.fcdoc_core.specs.WorkedLines.{LinesWork};
 ghost use Rattle.fcdoc_core.specs.WorkedRuns.{RunsWork};
 ghost use Rattle.fcdoc_core.specs.WorkedSession.{SessionWorks};
 ghost use Rattle.fc_base.specs.Devices.{Held};
@@ -14,6 +15,11 @@ ghost use Rattle.fc_base.specs.Devices.{Held};
 pub fn lines_spell_commands()
     ensures read { (line : List ℕ) (c : Command) → IsLineOf line c → command_of line ≡ Some c }
     ensures spelled { (line : List ℕ) (c : Command) → command_of line ≡ Some c → IsLineOf line c }
+{}
+
+/// Paths and words that are cut off the front of texts, and the commands of lines.
+pub fn lines_work()
+    ensures { LinesWork }
 {}
 
 /// A session over a box and a link to it: what is answered, which features are called, and the state

@@ -1,12 +1,12 @@
 //! Reads the lines of a script as commands.
 
-ghost use Rattle.std.specs.Prelude.{◌≡◌, [], IfOk, IsErrOf};
+ghost use Rattle.std.specs.Prelude.{◌≡◌, IfOk, IsErrOf};
 ghost use Rattle.std.specs.List.{list_any};
-ghost use Rattle.fcdoc_core.specs.Commands.{Reads, command_of, command_of_parts, is_by_name, is_control, is_plain, parts_of, path_alone, path_and_text, property_of};
+ghost use Rattle.fcdoc_core.specs.Commands.{Reads, bind_of, command_of, command_of_cut, cut_path, cut_word, expression_of, get_of, is_by_name, is_control, is_plain, path_alone, path_and_text, property_of, recompute_of, set_of};
 ghost use Rattle.fcdoc_core.specs.Spelling.{IsLineOf};
 
 use crate::command::{Command, CommandFault};
-use crate::cutting::{behind_word, first_word, unspaced};
+use crate::cutting::{cut_path, cut_word, unspaced};
 use doc_rules::{Edit, EditText};
 use object_paths::{Owner, Path, PathFault, SlotName};
 use std::alloc::Global;
@@ -41,59 +41,84 @@ fn property_of(alloc: Global, word: &str) -> Result<Path, CommandFault>
 }
 
 /// A path, with nothing behind it.
-fn path_alone(alloc: Global, target: &str, tail: &str) -> Result<Path, CommandFault>
-    ensures { Reads (path_alone (record { verb = []; target = target.now; tail = tail.now })) result }
+fn path_alone(alloc: Global, behind: &str) -> Result<Path, CommandFault>
+    ensures { Reads (path_alone (cut_path behind.now)) result }
 {
-    if tail.is_empty() {
-        property_of(alloc, target)
+    let (path, rest) = cut_path(behind);
+    if rest.is_empty() {
+        property_of(alloc, path)
     } else {
         Err(CommandFault::NotBuilt)
     }
 }
 
 /// A path, with a text behind it that is not empty.
-fn path_and_text(alloc: Global, target: &str, tail: &str) -> Result<(Path, EditText), CommandFault>
-    ensures { Reads (path_and_text (record { verb = []; target = target.now; tail = tail.now })) result }
+fn path_and_text(alloc: Global, behind: &str) -> Result<(Path, EditText), CommandFault>
+    ensures { Reads (path_and_text (cut_path behind.now)) result }
 {
-    if tail.is_empty() {
+    let (path, rest) = cut_path(behind);
+    if rest.is_empty() {
         return Err(CommandFault::NotBuilt);
     }
-    let path = property_of(alloc, target)?;
-    let text = EditText::of(alloc, tail)?;
+    let path = property_of(alloc, path)?;
+    let text = EditText::of(alloc, rest)?;
     Ok((path, text))
 }
 
-/// The command that the parts of a line make.
-fn command_of_parts(
-    alloc: Global,
-    verb: &str,
-    target: &str,
-    tail: &str,
-) -> Result<Command, CommandFault>
-    ensures { Reads (command_of_parts (record { verb = verb.now; target = target.now; tail = tail.now })) result }
+/// `get`, of what stands behind it.
+fn get_of(alloc: Global, behind: &str) -> Result<Command, CommandFault>
+    ensures { Reads (get_of behind.now) result }
 {
-    match verb {
-        "get" => Ok(Command::Get(path_alone(alloc, target, tail)?)),
-        "expr" => Ok(Command::Expression(path_alone(alloc, target, tail)?)),
-        "set" => {
-            let (path, expr) = path_and_text(alloc, target, tail)?;
-            Ok(Command::Edit(Edit::SetValue { path, expr }))
-        }
-        "bind" => {
-            let (path, expr) = path_and_text(alloc, target, tail)?;
-            Ok(Command::Edit(Edit::Bind { path, expr }))
-        }
-        "recompute" if target.is_empty() => Ok(Command::Recompute),
-        _ => Err(CommandFault::NotBuilt),
+    Ok(Command::Get(path_alone(alloc, behind)?))
+}
+
+/// `expr`, of what stands behind it.
+fn expression_of(alloc: Global, behind: &str) -> Result<Command, CommandFault>
+    ensures { Reads (expression_of behind.now) result }
+{
+    Ok(Command::Expression(path_alone(alloc, behind)?))
+}
+
+/// `set`, of what stands behind it.
+fn set_of(alloc: Global, behind: &str) -> Result<Command, CommandFault>
+    ensures { Reads (set_of behind.now) result }
+{
+    let (path, expr) = path_and_text(alloc, behind)?;
+    Ok(Command::Edit(Edit::SetValue { path, expr }))
+}
+
+/// `bind`, of what stands behind it.
+fn bind_of(alloc: Global, behind: &str) -> Result<Command, CommandFault>
+    ensures { Reads (bind_of behind.now) result }
+{
+    let (path, expr) = path_and_text(alloc, behind)?;
+    Ok(Command::Edit(Edit::Bind { path, expr }))
+}
+
+/// `recompute`, of what stands behind it.
+fn recompute_of(behind: &str) -> Result<Command, CommandFault>
+    ensures { Reads (recompute_of behind.now) result }
+{
+    if behind.is_empty() {
+        Ok(Command::Recompute)
+    } else {
+        Err(CommandFault::NotBuilt)
     }
 }
 
 /// The command of a line without outer spaces.
 fn command_of_line(alloc: Global, line: &str) -> Result<Command, CommandFault>
-    ensures { Reads (command_of_parts (parts_of line.now)) result }
+    ensures { Reads (command_of_cut (cut_word line.now)) result }
 {
-    let rest = behind_word(line);
-    command_of_parts(alloc, first_word(line), first_word(rest), behind_word(rest))
+    let (verb, behind) = cut_word(line);
+    match verb {
+        "get" => get_of(alloc, behind),
+        "expr" => expression_of(alloc, behind),
+        "set" => set_of(alloc, behind),
+        "bind" => bind_of(alloc, behind),
+        "recompute" => recompute_of(behind),
+        _ => Err(CommandFault::NotBuilt),
+    }
 }
 
 /// Whether a control character other than tab stands in the line.
