@@ -3,6 +3,7 @@ pub mod DeliveryLemmas
 pub mod FilesLemmas
 pub mod FrontLemmas
 pub mod HeadlineLemmas
+pub mod LabelLemmas
 pub mod RepliesLemmas
 pub mod ScriptLemmas
 pub mod SessionLemmas

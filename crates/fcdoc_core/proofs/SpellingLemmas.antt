@@ -24,16 +24,16 @@ use Rattle.fcdoc_core.specs.declared.command.CommandFault.TheVariants.{NotBuilt,
 use Rattle.fcdoc_core.specs.declared.command.Command.{Command}
 use Rattle.fcdoc_core.specs.declared.command.Command.TheVariants as command
 use Rattle.fcdoc_core.specs.Commands.{Reads, Cut, after_spaces, unspaced, cut_word, cut_at_label, cut_path, named_property, property_of, is_empty, is_control, path_alone, path_and_text, get_of, expression_of, set_of, bind_of, recompute_of, command_of_cut, command_of}
-use Rattle.fcdoc_core.specs.Spelling.{spaces, IsWord, IsPlainWord, IsLabelled, IsTarget, begins_with_space, IsUnspaced, IsOneWord, IsWordAndPath, IsPathAndText, Spells, IsLineOf}
+use Rattle.fcdoc_core.specs.Spelling.{spaces, IsWord, IsPlainWord, IsTarget, begins_with_space, IsUnspaced, IsOneWord, IsWordAndPath, IsPathAndText, Spells, IsLineOf}
 
 no_path : property_of [] ≡ None
 unfolding path_of unit_named is_utf8 chars address_of
 no_path = refl
 
-abbrev first_word : List ℕ → List ℕ
+abbrev pub first_word : List ℕ → List ℕ
 first_word text = (cut_word text).first
 
-abbrev behind_word : List ℕ → List ℕ
+abbrev pub behind_word : List ℕ → List ℕ
 behind_word text = (cut_word text).rest
 
 -- spaces in front are left out
@@ -148,7 +148,7 @@ joined_unspaced word n text is some unspaced_text filled = record {
 
 -- ---- paths with a label in front
 
-both_true : (a b : Bool) → (a && b) ≡ true → (a ≡ true) × (b ≡ true)
+pub both_true : (a b : Bool) → (a && b) ≡ true → (a ≡ true) × (b ≡ true)
 both_true true b e = (refl, e)
 both_true false b e = absurd (cc)
 
@@ -202,8 +202,8 @@ plain_target target path (inr labelled) e =
 
 word_target : (target : List ℕ) (path : Path) → IsWord target → property_of target ≡ Some path → IsTarget target
 word_target target path word e = inl (record {
-    word = word;
-    plain = λ rest stands. let none = ap property_of stands ∙ no_property rest in absurd (cc);
+  word = word;
+  plain = λ rest stands. let none = ap property_of stands ∙ no_property rest in absurd (cc);
 })
 
 -- a word that begins with no `<<` opens no label, and no space behind it changes that
@@ -248,7 +248,7 @@ path_lone : (target : List ℕ) → IsPlainWord target → cut_path target ≡ r
 path_lone target is = unopened target (opened-word target is) ∙ cut_lone target is.word
 
 path_front : (target : List ℕ) (n : ℕ) (tail : List ℕ) → IsPlainWord target → IsUnspaced tail → cut_path (target ++ 32 ∷ (spaces n ++ tail)) ≡ record { first = target; rest = tail }
-path_front target n tail is unspaced_tail = unopened _ (opened-plain target (spaces n ++ tail) is) ∙ cut_front target n tail is.word unspaced_tail
+path_front target n tail is unspaced_tail = unopened (target ++ 32 ∷ (spaces n ++ tail)) (opened-plain target (spaces n ++ tail) is) ∙ cut_front target n tail is.word unspaced_tail
 
 -- ---- lines, cut behind their verb
 
@@ -387,19 +387,19 @@ space_of (c ∷ cs) =
     ] refl
 
 -- a text that is cut behind its first word
-record IsCut (text first rest : List ℕ) : Type 0 where
-  between : ℕ
-  behind : ℕ
-  stands : text ≡ first ++ 32 ∷ (spaces between ++ (rest ++ spaces behind))
+pub record IsCut (text first rest : List ℕ) : Type 0 where
+  pub between : ℕ
+  pub behind : ℕ
+  pub stands : text ≡ first ++ 32 ∷ (spaces between ++ (rest ++ spaces behind))
   word : IsWord first
   is : IsUnspaced rest
 
-record IsLone (text : List ℕ) : Type 0 where
+pub record IsLone (text : List ℕ) : Type 0 where
   word : IsWord text
-  first : first_word text ≡ text
+  pub first : first_word text ≡ text
   nothing : behind_word text ≡ []
 
-cut_of : (text : List ℕ) → IsLone text ⊎ IsCut text (first_word text) (behind_word text)
+pub cut_of : (text : List ℕ) → IsLone text ⊎ IsCut text (first_word text) (behind_word text)
 cut_of text = elim (space_of text) [
   | inl word ↦ inl (record { word = word; first = first_word-word text word; nothing = behind_word-word text word })
   | inr has ↦
@@ -525,11 +525,11 @@ module _ (line : List ℕ) where
     ]
   ]
 
-chosen : {A : Type 0} (b : Bool) (x y z : A) → cond b x y ≡ z → ((b ≡ true) × (x ≡ z)) ⊎ ((b ≡ false) × (y ≡ z))
+pub chosen : {A : Type 0} (b : Bool) (x y z : A) → cond b x y ≡ z → ((b ≡ true) × (x ≡ z)) ⊎ ((b ≡ false) × (y ≡ z))
 chosen true x y z e = inl (refl, e)
 chosen false x y z e = inr (refl, e)
 
-map_some : {A B : Type 0} (f : A → B) (o : Option A) (y : B) → option_map f o ≡ Some y → (x : A) × (o ≡ Some x) × (f x ≡ y)
+pub map_some : {A B : Type 0} (f : A → B) (o : Option A) (y : B) → option_map f o ≡ Some y → (x : A) × (o ≡ Some x) × (f x ≡ y)
 map_some f None y e = absurd (cc)
 map_some f (Some x) y e = (x, refl, cc)
 

@@ -1,6 +1,7 @@
 -- The worked lines hold by computation.
 use Rattle.std.proofs.Common.{refl}
 use Rattle.std.specs.Str.{is_utf8, chars}
+use lib.Utf8.{encode}
 use Rattle.unicode_ident.proofs.Computing.{unicode_ident}
 use Rattle.fc_base.specs.Places.{address_of}
 use Rattle.unit_signatures.specs.Table.{unit_named}
@@ -8,7 +9,7 @@ use Rattle.object_paths.specs.PathParts.{path_of}
 use Rattle.fcdoc_core.specs.WorkedLines.{LinesWork}
 
 pub lines_work : LinesWork
-unfolding path_of unit_named address_of is_utf8 chars unicode_ident
+unfolding path_of unit_named address_of is_utf8 chars encode unicode_ident
 lines_work = record {
   paths = record {
     spaced_label = refl;
