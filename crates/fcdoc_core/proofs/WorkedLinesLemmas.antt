@@ -27,6 +27,7 @@ lines_work = record {
   words = record {
     label = refl;
     spaces = refl;
+    outer = refl;
     alone = refl;
     no_text = refl;
   };
@@ -38,10 +39,14 @@ lines_work = record {
     bind = refl;
     recompute = refl;
     label_path = refl;
+    own_path = refl;
+    component = refl;
     two_paths = refl;
     no_expression = refl;
     recompute_more = refl;
     no_path = refl;
+    control = refl;
+    tab = refl;
     no_line = refl;
   };
 }

@@ -1,5 +1,5 @@
 -- Lines and their parts, cut one by one.
-use Rattle.std.specs.Prelude.{◌≡◌, [], None, Some, codes}
+use Rattle.std.specs.Prelude.{◌≡◌, [], ◌∷◌, ◌++◌, None, Some, codes}
 use Rattle.object_paths.specs.declared.path.Path.{Path}
 use Rattle.object_paths.specs.declared.path.Owner.TheVariants.{ByName}
 use Rattle.object_paths.specs.declared.slot_name.SlotName.TheVariants.{Plain}
@@ -29,9 +29,11 @@ pub record PathsAreCut : Type 0 where
 pub record WordsAreCut : Type 0 where
   pub label : cut_word (codes "<<a b>>.x") ≡ record { first = codes "<<a"; rest = codes "b>>.x" }
   pub spaces : cut_word (codes "set   V.a 2  mm") ≡ record { first = codes "set"; rest = codes "V.a 2  mm" }
+  pub outer : cut_word (codes "get  V.a ") ≡ record { first = codes "get"; rest = codes "V.a" }
   pub alone : cut_word (codes "recompute") ≡ record { first = codes "recompute"; rest = [] }
   pub no_text : cut_word [] ≡ record { first = []; rest = [] }
 
+-- a line spells at most one command, with nothing left over
 pub record LinesAreRead : Type 0 where
   pub get : command_of (codes "get V.a") ≡ Some (command.Get width)
   pub spaced : command_of (codes "  get   V.a  ") ≡ Some (command.Get width)
@@ -40,10 +42,14 @@ pub record LinesAreRead : Type 0 where
   pub bind : command_of (codes "bind V.a 2 * V.b") ≡ Some (command.Edit (Bind width (codes "2 * V.b")))
   pub recompute : command_of (codes " recompute ") ≡ Some command.Recompute
   pub label_path : command_of (codes "get <<a b>>.x") ≡ None
+  pub own_path : command_of (codes "get .a") ≡ None
+  pub component : command_of (codes "get V.a.Base.x") ≡ None
   pub two_paths : command_of (codes "get V.a V.b") ≡ None
   pub no_expression : command_of (codes "set V.a") ≡ None
   pub recompute_more : command_of (codes "recompute x") ≡ None
   pub no_path : command_of (codes "get") ≡ None
+  pub control : command_of (codes "set V.a 2" ++ 1 ∷ []) ≡ None
+  pub tab : command_of (codes "set V.a 2" ++ 9 ∷ []) ≡ Some (command.Edit (SetValue width (codes "2" ++ 9 ∷ [])))
   pub no_line : command_of [] ≡ None
 
 pub record LinesWork : Type 0 where
