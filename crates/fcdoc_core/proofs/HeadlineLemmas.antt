@@ -9,7 +9,7 @@ use Rattle.fcdoc_core.specs.declared.status.Status.{Status}
 use Rattle.fcdoc_core.specs.declared.status.Status.TheVariants.{Done, SomeRefused, Usage, Missing, DocumentRefused, ScriptRefused, StoreFault, SinkFault, Memory}
 use Rattle.fcdoc_core.specs.declared.stop.Stop.TheVariants as stop
 use Rattle.fcdoc_core.specs.Causes.{AreHonest, HasCauses}
-use Rattle.fcdoc_core.specs.Headline.{Run, run_of, HasPut, WroteAll, SinkStopped, FetchStopped, PutStopped, RanOut, LeavesAt, Leaves, Headline, ForFiles, IsComplete, Complete}
+use Rattle.fcdoc_core.specs.Headline.{Run, run_of, HasPut, WroteAll, SinkStopped, FetchStopped, PutStopped, RanOut, LeavesAt, Leaves, Headline, ForFiles, IsComplete, Complete, plans_of}
 use Rattle.fcdoc_core.specs.Plans.{Ends, MeansForm, Speaks, is_end, top_of_plan}
 use Rattle.fcdoc_core.specs.Top.{Files, Top, files_in, top, top_of_form}
 use Rattle.fcdoc_core.specs.Words.{Form, form_of}
@@ -115,7 +115,7 @@ for_held (Some held) form files P found p = subst P (sym found) p
 
 pub headline_of : (words : List (List ℕ)) (r : Run) → Ends (form_of words) r → Headline words r
 unfolding top
-headline_of words r e = for_held r.held (form_of words) e.files (λ files. Leaves (top_of_form [] no_features (form_of words) files) r) e.found e.leaves
+headline_of words r e = for_held r.held (form_of words) e.files (λ files. Leaves (top_of_form (plans_of r) no_features (form_of words) files) r) e.found e.leaves
 
 pub for_files_of : (words : List (List ℕ)) (r : Run) → Ends (form_of words) r → ForFiles words r
 for_files_of words r e = record { files = e.files; leaves = e.leaves }
@@ -133,7 +133,7 @@ causes-at SinkFault t r l = l.faults
 causes-at Memory t r l = l.faults
 
 pub causes_of : (form : Option Form) (r : Run) → Ends form r → HasCauses r.status r.faults
-causes_of form r e = causes-at r.status (top_of_form [] no_features form e.files) r e.leaves
+causes_of form r e = causes-at r.status (top_of_form (plans_of r) no_features form e.files) r e.leaves
 
 -- a count that rose, or stands at its end, is no honest one
 not_honest : (before after : ℕ) → HasRisen before after → after ≡ before → after ≢ last_count → ⊥
@@ -154,5 +154,5 @@ complete-at Memory t r is l h = inr is
 pub complete_of : (words : List (List ℕ)) (r : Run) → Ends (form_of words) r → Complete words r
 unfolding top
 complete_of words r e =
-    for_held r.held (form_of words) e.files (λ files. IsComplete (top_of_form [] no_features (form_of words) files) r) e.found
-    (complete-at r.status (top_of_form [] no_features (form_of words) e.files) r refl e.leaves)
+    for_held r.held (form_of words) e.files (λ files. IsComplete (top_of_form (plans_of r) no_features (form_of words) files) r) e.found
+    (complete-at r.status (top_of_form (plans_of r) no_features (form_of words) e.files) r refl e.leaves)

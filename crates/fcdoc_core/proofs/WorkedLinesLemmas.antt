@@ -21,6 +21,7 @@ lines_work = record {
     not_closed = refl;
     label_behind = refl;
     one_mark = refl;
+    tab_in_front = refl;
     no_label = refl;
     no_text = refl;
   };

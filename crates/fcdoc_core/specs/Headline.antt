@@ -1,8 +1,9 @@
 -- What a run leaves, by the way in which it ended.
-use Rattle.std.specs.Prelude.{◌≡◌, ◌⊎◌, ℕ, List, [], Option, Some, None, Ok, Err, IfSome}
+use Rattle.std.specs.Prelude.{◌≡◌, ◌⊎◌, ℕ, List, [], map, Option, Some, None, Ok, Err, IfSome}
 use Rattle.std.specs.Io.KnownBytes.{Appends, Keeps}
 use Rattle.fc_base.specs.Devices.{Held, Puts}
 use Rattle.fc_base.specs.declared.faults.DeviceFault.TheVariants.{Failed}
+use Rattle.property_types.specs.Plans.{Slots}
 use Rattle.document_outcomes.specs.Typed.{no_features}
 use Rattle.fcdoc_core.specs.declared.status.Status.{Status}
 use Rattle.fcdoc_core.specs.declared.status.Status.TheVariants.{Done, SomeRefused, Usage, Missing, DocumentRefused, ScriptRefused, StoreFault, SinkFault, Memory}
@@ -37,6 +38,10 @@ run_of status held held_after written written_after store store_after sink sink_
   runs = [];
   runs_after = [];
 }
+
+-- the plans of the features at hand
+abbrev pub plans_of : Run → List Slots
+plans_of r = map (λ (f : FeatureRuns). f.plan) r.runs
 
 -- the store holds what it held, and the put where there is one
 abbrev pub HasPut : Option (List ℕ × List ℕ) → Option Held → Option Held → Type 0
@@ -102,12 +107,12 @@ Leaves t r = LeavesAt r.status t r
 
 -- a run of these words leaves what their meaning says, where the store tells what it holds
 abbrev pub Headline : List (List ℕ) → Run → Type 0
-Headline words r = IfSome r.held (λ held. Leaves (top [] no_features words held) r)
+Headline words r = IfSome r.held (λ held. Leaves (top (plans_of r) no_features words held) r)
 
 -- there are files for which a run of these words leaves what their meaning says, whatever the store tells
 pub record ForFiles (words : List (List ℕ)) (r : Run) : Type 0 where
   pub files : Files
-  pub leaves : Leaves (top_of_form [] no_features (form_of words) files) r
+  pub leaves : Leaves (top_of_form (plans_of r) no_features (form_of words) files) r
 
 -- honest devices get the defined status, or there was no memory
 abbrev pub IsComplete : Top → Run → Type 0
@@ -115,4 +120,4 @@ IsComplete t r = AreHonest r.faults → (r.status ≡ t.status) ⊎ (r.status �
 
 -- the same of the meaning of the words, where the store tells what it holds
 abbrev pub Complete : List (List ℕ) → Run → Type 0
-Complete words r = IfSome r.held (λ held. IsComplete (top [] no_features words held) r)
+Complete words r = IfSome r.held (λ held. IsComplete (top (plans_of r) no_features words held) r)

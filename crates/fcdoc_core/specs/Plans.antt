@@ -18,7 +18,7 @@ use Rattle.fcdoc_core.specs.declared.plan.Found.{Found}
 use Rattle.fcdoc_core.specs.declared.plan.Found.TheVariants.{Bytes, TooLong, Nothing}
 use Rattle.fcdoc_core.specs.Scripts.{most_bytes, with_replies}
 use Rattle.fcdoc_core.specs.Delivery.{GaveLess, GaveFront}
-use Rattle.fcdoc_core.specs.Headline.{Leaves, Run}
+use Rattle.fcdoc_core.specs.Headline.{Leaves, Run, plans_of}
 use Rattle.fcdoc_core.specs.Machine.{State, stepped}
 use Rattle.fcdoc_core.specs.Opening.{Unopened}
 use Rattle.fcdoc_core.specs.Top.{Files, Top, files_in, text_of, one_piece, usage, missing, document_too_long, script_too_long, replies_of, top_of_form, top_of_state}
@@ -53,7 +53,7 @@ pub record MeansForm (known : Option Held) (form : Option Form) (plan : Plan) : 
 pub record Ends (form : Option Form) (r : Run) : Type 0 where
   pub files : Files
   pub found : IfSome r.held (λ held. files_in held form ≡ files)
-  pub leaves : Leaves (top_of_form [] no_features form files) r
+  pub leaves : Leaves (top_of_form (plans_of r) no_features form files) r
 
 -- how a fetch ended: only the store's failure raised its count
 abbrev pub CountsStop : {X : Type 0} → Result X Stop → ℕ → ℕ → Type 0

@@ -22,6 +22,7 @@ pub record PathsAreCut : Type 0 where
   pub not_closed : cut_path (codes "<<a b") ≡ record { first = codes "<<a"; rest = codes "b" }
   pub label_behind : cut_path (codes "a<<b c>>") ≡ record { first = codes "a<<b"; rest = codes "c>>" }
   pub one_mark : cut_path (codes "<a b>>.x") ≡ record { first = codes "<a"; rest = codes "b>>.x" }
+  pub tab_in_front : cut_path (9 ∷ codes "<<a b>>.x") ≡ record { first = 9 ∷ codes "<<a"; rest = codes "b>>.x" }
   pub no_label : cut_path (codes "V.a  2 mm") ≡ record { first = codes "V.a"; rest = codes "2 mm" }
   pub no_text : cut_path [] ≡ record { first = []; rest = [] }
 
