@@ -1,1 +1,2 @@
 pub mod BracketLemmas
+pub mod ReplacedLemmas

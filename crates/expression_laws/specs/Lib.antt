@@ -1,2 +1,3 @@
 pub mod ReadBack
 pub mod Brackets
+pub mod Replaced

@@ -2,6 +2,7 @@
 ghost use Rattle.expr_grammar.specs.Grammar.{HaveOneTree};
 ghost use Rattle.expr_grammar.specs.Parse.{ClosedHasNoReferences, ExpressionParses, FaultIsCause};
 ghost use Rattle.expression_laws.specs.Brackets.{PrintedFormHasTokens, BracketsAreNeeded};
+ghost use Rattle.expression_laws.specs.Replaced.{ReferencesAreSpelled, ChangedTreesAreSpelled, RenamedTreesAreSpelled};
 ghost use Rattle.expression_laws.specs.ReadBack.{PrintedFormHasTree, PrintedFormIsRead, ParsedTreesAreSpelled};
 
 /// A list of tokens has one tree at most, at each level of the grammar.
@@ -40,4 +41,12 @@ pub fn expression_is_parsed()
 /// A text that parses has no place of a first reference exactly where its tree has no references.
 pub fn closed_has_no_references()
     ensures { ClosedHasNoReferences }
+{}
+
+/// The paths and areas of a tree that can be spelled can be spelled too. With others that can be
+/// spelled in place of all, or of those that a list of numbers names, the tree can again.
+pub fn renaming_keeps_spelling()
+    ensures references { ReferencesAreSpelled }
+    ensures changed { ChangedTreesAreSpelled }
+    ensures renamed { RenamedTreesAreSpelled }
 {}

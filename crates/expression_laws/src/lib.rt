@@ -6,8 +6,10 @@
 //!   `closed_has_no_references`.
 //! - Trees that can be spelled are printed and read as themselves, with brackets exactly where they
 //!   are needed: `printed_form_is_read`, `parsed_trees_are_spelled`, `brackets_are_needed`.
+//! - A tree that can be spelled stays one with other references in place of its own:
+//!   `renaming_keeps_spelling`.
 //!
-//! They stand apart from the code, which no law needs, so that they are proved once. The laws of
+//! They stand apart from the code, which no law needs, so that they are proved once. Other laws of
 //! trees alone stand in `expr_tree`. Page: `docs/expressions.md`. Laws have no rows.
 #![tactic(auto)]
 
