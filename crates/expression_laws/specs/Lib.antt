@@ -1,3 +1,4 @@
 pub mod ReadBack
 pub mod Brackets
 pub mod Replaced
+pub mod PathsRead

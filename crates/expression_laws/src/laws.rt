@@ -2,6 +2,7 @@
 ghost use Rattle.expr_grammar.specs.Grammar.{HaveOneTree};
 ghost use Rattle.expr_grammar.specs.Parse.{ClosedHasNoReferences, ExpressionParses, FaultIsCause};
 ghost use Rattle.expression_laws.specs.Brackets.{PrintedFormHasTokens, BracketsAreNeeded};
+ghost use Rattle.expression_laws.specs.PathsRead.{PathsAreExpressions, PathsHaveTokens};
 ghost use Rattle.expression_laws.specs.Replaced.{ReferencesAreSpelled, ChangedTreesAreSpelled, RenamedTreesAreSpelled};
 ghost use Rattle.expression_laws.specs.ReadBack.{PrintedFormHasTree, PrintedFormIsRead, ParsedTreesAreSpelled};
 
@@ -49,4 +50,11 @@ pub fn renaming_keeps_spelling()
     ensures references { ReferencesAreSpelled }
     ensures changed { ChangedTreesAreSpelled }
     ensures renamed { RenamedTreesAreSpelled }
+{}
+
+/// A text is read as a path exactly where its tokens are those of the path, and so exactly where it
+/// is that path as an expression, with no brackets round it.
+pub fn paths_are_read_as_expressions()
+    ensures tokens { PathsHaveTokens }
+    ensures expressions { PathsAreExpressions }
 {}

@@ -8,6 +8,8 @@
 //!   are needed: `printed_form_is_read`, `parsed_trees_are_spelled`, `brackets_are_needed`.
 //! - A tree that can be spelled stays one with other references in place of its own:
 //!   `renaming_keeps_spelling`.
+//! - A text is read as a path exactly where it is one as an expression:
+//!   `paths_are_read_as_expressions`.
 //!
 //! They stand apart from the code, which no law needs, so that they are proved once. Other laws of
 //! trees alone stand in `expr_tree`. Page: `docs/expressions.md`. Laws have no rows.
