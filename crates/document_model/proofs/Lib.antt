@@ -3,8 +3,10 @@ pub mod ExampleLemmas
 pub mod WorkedLemmas
 pub mod WorkedObjectLemmas
 pub mod WorkedRowLemmas
+pub mod WorkedRenameLemmas
 pub mod Members
 pub mod DependencyLemmas
 pub mod DistinctNames
 pub mod FormLemmas
 pub mod TypedContents
+pub mod RelabelledForm

@@ -12,6 +12,7 @@ use Rattle.document_model.specs.declared.content.Content.{Content}
 use Rattle.document_model.specs.declared.content.Content.TheVariants.{Own}
 use Rattle.document_model.specs.declared.kind.ObjectKind.{ObjectKind}
 use Rattle.document_model.specs.declared.kind.ObjectKind.TheVariants.{VarSet, Sheet, Link, Feature, Foreign}
+use Rattle.document_model.specs.declared.status.Status2.{Status2}
 use Rattle.document_model.specs.Document.{Document, Object, Property}
 use Rattle.document_model.specs.TypedSlots.{property_slots, placement_slots, link_slots}
 
@@ -107,3 +108,15 @@ without_dynamic name o = record o { dynamics = filter (λ (p : Property). not (s
 -- the document without a dynamic property of an object
 abbrev pub without_property : Document → List ℕ → List ℕ → Document
 without_property d object name = with_changed d object (without_dynamic name)
+
+-- the document with another label of the object of that name
+abbrev pub with_label : Document → List ℕ → List ℕ → Document
+with_label d name new = with_changed d name (λ o. record o { label = new })
+
+-- a dynamic property with another status, if it has that name
+abbrev pub property_with_status : List ℕ → Status2 → Property → Property
+property_with_status name new p = if same_text p.name name then record p { status = new } else p
+
+-- the document with another status of a dynamic property of an object
+abbrev pub with_status : Document → List ℕ → List ℕ → Status2 → Document
+with_status d object name new = with_changed d object (λ o. record o { dynamics = map (property_with_status name new) o.dynamics })

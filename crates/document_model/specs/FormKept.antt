@@ -10,6 +10,7 @@ use Rattle.document_model.specs.Contents.{IsContentOf}
 use Rattle.document_model.specs.Document.{Document, Object, Property, object_named}
 use Rattle.document_model.specs.Edited.{new_object, new_property, with_object, without_object, with_property, without_property, with_content}
 use Rattle.document_model.specs.Kinds.{has_dynamics, is_dynamic_name, names_of_kind}
+use Rattle.document_model.specs.Renamed.{object, renamed}
 use Rattle.document_model.specs.Slots.{type_of}
 use Rattle.document_model.specs.WellFormed.{IsKind, IsObject, IsProperty, IsWellFormed, is_added_type}
 
@@ -35,15 +36,19 @@ RemovedObjectsKeepForm = (d : Document) (name : List ℕ) → IsWellFormed d →
 -- property of it has the name
 abbrev pub AddedPropertiesKeepForm : Type 0
 AddedPropertiesKeepForm =
-    (d : Document) (object : List ℕ) (o : Object) (p : Property) → IsWellFormed d → object_named d object ≡ Some o → IsTrue (has_dynamics o.kind)
+    (d : Document) (owner : List ℕ) (o : Object) (p : Property) → IsWellFormed d → object_named d owner ≡ Some o → IsTrue (has_dynamics o.kind)
     → IsProperty o.kind p → is_among p.name (names_of_kind o.kind ++ map (λ (q : Property). q.name) o.dynamics) ≡ false
-    → IsWellFormed (with_property d object p)
+    → IsWellFormed (with_property d owner p)
 
 -- any dynamic property may be removed
 abbrev pub RemovedPropertiesKeepForm : Type 0
-RemovedPropertiesKeepForm = (d : Document) (object name : List ℕ) → IsWellFormed d → IsWellFormed (without_property d object name)
+RemovedPropertiesKeepForm = (d : Document) (owner name : List ℕ) → IsWellFormed d → IsWellFormed (without_property d owner name)
 
 -- any content of a slot's type may be put into it
 abbrev pub ChangedContentsKeepForm : Type 0
 ChangedContentsKeepForm =
     (d : Document) (s : Slot) (type : PropType) (new : Content) → IsWellFormed d → type_of d s ≡ Some type → IsContentOf type new → IsWellFormed (with_content d s new)
+
+-- any object may get another label
+abbrev pub RelabellingsKeepForm : Type 0
+RelabellingsKeepForm = (d : Document) (name new : List ℕ) → IsWellFormed d → IsTrue (is_label new) → IsWellFormed (renamed d (object name) new)

@@ -12,6 +12,7 @@ pub mod Contents
 pub mod KeptText
 pub mod ForeignProperties
 pub mod WellFormed
+pub mod Renamed
 pub mod FormKept
 pub mod Examples
 pub mod LinkedBox
@@ -19,3 +20,4 @@ pub mod WorkedForm
 pub mod WorkedText
 pub mod WorkedObjects
 pub mod WorkedRows
+pub mod WorkedRenames

@@ -11,11 +11,13 @@ ghost use Rattle.document_model.specs.FormKept.{
   AddedPropertiesKeepForm,
   RemovedPropertiesKeepForm,
   ChangedContentsKeepForm,
+  RelabellingsKeepForm,
 };
 ghost use Rattle.document_model.specs.LinkedBox.{LinkedBoxWorks};
 ghost use Rattle.document_model.specs.Slots.{slots};
 ghost use Rattle.document_model.specs.WorkedForm.{CountsWork, EditsWork, KindsWork, TypesWork};
 ghost use Rattle.document_model.specs.WorkedObjects.{IllFormedObjectsWork, IllFormedPartsWork, WellFormedObjectsWork};
+ghost use Rattle.document_model.specs.WorkedRenames.{AliasRenamesWork, PropertyRenamesWork, RelabellingsWork};
 ghost use Rattle.document_model.specs.WorkedRows.{CompoundsWork, RemovalsWork, SheetsWork, UnplacedWork};
 ghost use Rattle.document_model.specs.WorkedText.{AttributesWork, ForeignPropertiesWork, PiecesWork, PlacesWork};
 
@@ -82,4 +84,17 @@ pub fn rows_work()
     ensures compounds { CompoundsWork }
     ensures sheets { SheetsWork }
     ensures removals { RemovalsWork }
+{}
+
+/// A new label, a new name of a property and a new alias are followed by the paths and the overrides that
+/// have the old one for the same thing, and by nothing else.
+pub fn renames_work()
+    ensures labels { RelabellingsWork }
+    ensures properties { PropertyRenamesWork }
+    ensures aliases { AliasRenamesWork }
+{}
+
+/// A well-formed document stays so where an object of any kind gets another label.
+pub fn relabellings_keep_form()
+    ensures { RelabellingsKeepForm }
 {}

@@ -18,3 +18,10 @@ pub mod InheritLemmas
 pub mod TargetLemmas
 pub mod TypedLemmas
 pub mod ValueLemmas
+pub mod ChangedLists
+pub mod ChangedObjects
+pub mod CarriedLemmas
+pub mod CarriedOutcomes
+pub mod RenamedRows
+pub mod RelabelledLemmas
+pub mod RenameLemmas

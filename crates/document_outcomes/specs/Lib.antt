@@ -8,6 +8,7 @@ pub mod NoFault
 pub mod Typed
 pub mod Called
 pub mod LimitsPassed
+pub mod Renames
 pub mod WorkedParts
 pub mod WorkedNumbers
 pub mod WorkedFaults

@@ -12,6 +12,7 @@ ghost use Rattle.document_outcomes.specs.Faults.{IsValid};
 ghost use Rattle.document_outcomes.specs.Full.{Meanings, full, local};
 ghost use Rattle.document_outcomes.specs.LimitsPassed.{LimitsAreExact};
 ghost use Rattle.document_outcomes.specs.NoFault.{HasNoFault};
+ghost use Rattle.document_outcomes.specs.Renames.{RelabellingsKeepDependencies, RelabellingsKeepOutcomes, RelabellingsKeepSlots};
 ghost use Rattle.document_outcomes.specs.Sorts.{local_sort, sort};
 ghost use Rattle.document_outcomes.specs.Typed.{NoSlotHasWrongOperands, OutcomesHaveSorts, PlacementsFaultTogether, SortsCanBeGiven};
 ghost use Rattle.document_outcomes.specs.WorkedFaultedInputs.{FaultedInputsWork};
@@ -155,4 +156,12 @@ pub fn members_and_names_work()
     ensures aliases { HiddenAliasesWork }
     ensures placements { PlacementsWork }
     ensures faulted { FaultedInputsWork }
+{}
+
+/// A new label that is good and free, for an object of any kind in a well-formed and valid document, changes
+/// no outcome of any slot, and no dependency. No new label changes which slots there are.
+pub fn relabellings_keep_outcomes()
+    ensures outcomes { RelabellingsKeepOutcomes }
+    ensures dependencies { RelabellingsKeepDependencies }
+    ensures slots { RelabellingsKeepSlots }
 {}
