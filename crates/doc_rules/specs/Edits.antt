@@ -21,7 +21,7 @@ use Rattle.document_model.specs.Edited.{with_content}
 use Rattle.document_model.specs.Slots.{type_of}
 use Rattle.document_outcomes.specs.Faults.{Fault, first_fault, number_of_cause}
 use Rattle.document_outcomes.specs.Full.{Meanings, fitted, full}
-use Rattle.document_outcomes.specs.RefusalNumbers.{out_of_range, expr_syntax}
+use Rattle.document_outcomes.specs.RefusalNumbers.{out_of_range, expr_syntax, not_built}
 use Rattle.document_outcomes.specs.Sorts.{bound_sort}
 use Rattle.doc_tables.specs.Numbered.{Numbered, Keeps, slot_at}
 use Rattle.doc_rules.specs.declared.edit.Edit.{Edit}
@@ -115,6 +115,7 @@ set_to d s found = on_one (λ v. accepted (with_content d s (Own v))) (value_rea
 unfoldable pub edited : List Slots → Meanings → Bool → Document → Edit → Result Accepted Refusal
 edited plans m clean d (SetValue path text) = on_one (λ s. set_to d s (closed_expression_in text)) (slot_commanded d path)
 edited plans m clean d (Bind path text) = on_one (λ s. bound_to d s (expression_in text)) (slot_commanded d path)
+edited plans m clean d _ = Err (refused not_built)
 
 -- ---- what a call is handed
 

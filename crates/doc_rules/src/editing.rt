@@ -24,7 +24,7 @@ use crate::commanded::slot_commanded;
 use crate::edit::Edit;
 use crate::edit_fault::EditFault;
 use crate::fault::{CheckFault, DocFault};
-use crate::numbers::OUT_OF_RANGE;
+use crate::numbers::{NOT_BUILT, OUT_OF_RANGE};
 use crate::refusal::Refusal;
 use crate::sort_rules::{given_as, number_of_cause};
 use crate::sorts::wanted_sort;
@@ -207,6 +207,7 @@ fn edited<O: Outcomes>(
             Ok(slot) => with_binding(alloc, tables, slot, expr.as_str()),
             Err(refusal) => Err(EditFault::Refused(refusal)),
         },
+        _ => Err(EditFault::Refused(Refusal::of(NOT_BUILT))),
     }
 }
 

@@ -33,7 +33,7 @@ mod values;
 
 pub use checking::check;
 pub use commanded::slot_commanded;
-pub use edit::{Edit, EditText};
+pub use edit::{Edit, EditText, EditTexts, StatusChange};
 pub use edit_fault::EditFault;
 pub use editing::apply_edit;
 pub use fault::{CheckFault, DocFault};
