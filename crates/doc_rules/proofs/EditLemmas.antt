@@ -1,5 +1,5 @@
 -- The numbers of faults and of refusals have names, and what is accepted is valid.
-use Rattle.std.proofs.Common.{◌≡◌, Bool, true, false, cond, List, [], ◌∷◌, Option, Some, None, Result, Ok, Err, refl, sym, ap, subst, ◌∙◌, IsTrue}
+use Rattle.std.proofs.Common.{◌≡◌, ℕ, Bool, true, false, cond, List, [], ◌∷◌, Option, Some, None, Result, Ok, Err, refl, sym, ap, subst, ◌∙◌, IsTrue}
 use Rattle.std.specs.Option.{option_map, option_or}
 use Rattle.object_paths.specs.declared.path.Path.{Path}
 use Rattle.object_paths.specs.Slots.{Slot}
@@ -12,23 +12,35 @@ use Rattle.expr_eval.specs.declared.sort_cause.SortCause.{SortCause}
 use Rattle.expr_eval.specs.declared.sort_cause.SortCause.TheVariants.{UnitMismatch, KindMismatch, ExponentRange}
 use Rattle.expr_eval.specs.Firsts.{on_one}
 use Rattle.expr_eval.specs.SortRows.{SortOutcome}
-use Rattle.document_model.specs.Document.{Document, Object}
+use Rattle.object_paths.specs.declared.slot_name.SlotName.{SlotName}
+use Rattle.object_paths.specs.declared.slot_name.SlotName.TheVariants.{Plain, Component, Marked}
+use Rattle.property_types.specs.declared.prop_type.PropType.{PropType}
+use Rattle.property_types.specs.Types.{type_named}
+use Rattle.std.specs.List.{AllByRecursion}
+use Rattle.document_model.specs.Document.{Document, Object, Property, object_named}
+use Rattle.document_model.specs.declared.content.Content.TheVariants.{Own}
+use Rattle.document_model.specs.Edited.{with_content}
 use Rattle.document_model.specs.Slots.{slots}
-use Rattle.document_outcomes.specs.Full.{Meanings}
+use Rattle.document_outcomes.specs.Full.{Meanings, full}
 use Rattle.document_outcomes.specs.Sorts.{sort}
 use Rattle.document_outcomes.specs.Faults.{Fault, IsValid, first_fault, fault_within_limits, limit_faults, label_faults, link_faults, reference_fault, reference_faults, cycle_faults, sort_fault, sort_faults, first_some, object_fault, slot_fault, number_of_cause}
-use Rattle.document_outcomes.specs.RefusalNumbers.{no_object, no_property, label_taken, out_of_range, unknown_reference, cycle, link_kind, too_many}
+use Rattle.document_outcomes.specs.RefusalNumbers.{no_object, no_property, not_built, not_dynamic, label_taken, out_of_range, unknown_reference, cycle, link_kind, too_many, wrong_type}
 use Rattle.doc_rules.specs.declared.edit.Edit.{Edit}
-use Rattle.doc_rules.specs.declared.edit.Edit.TheVariants.{SetValue, Bind}
+use Rattle.doc_rules.specs.declared.edit.Edit.TheVariants.{New, Delete, Add, DropProperty, SetValue, Bind, Unbind}
 use Rattle.doc_rules.specs.declared.refusal.Refusal.{Refusal}
-use Rattle.doc_rules.specs.Commanded.{refused, slot_there, slot_behind, slot_commanded, object_commanded}
+use Rattle.doc_rules.specs.Commanded.{object_commanded, object_of, object_there, property_commanded, property_in, property_there, refused, slot_behind, slot_commanded, slot_there}
 use Rattle.doc_tables.specs.Numbered.{Numbered, LeadsTo}
 use Rattle.doc_rules.specs.declared.edit_fault.EditFault.{EditFault}
 use Rattle.doc_rules.specs.declared.fault.CheckFault.TheVariants.{Doc}
 use Rattle.doc_rules.specs.declared.fault.DocFault.{DocFault}
 use Rattle.doc_rules.specs.Found.{MeetsFault}
 use Rattle.doc_rules.specs.declared.edit_fault.EditFault.TheVariants.{Refused, Memory}
-use Rattle.doc_rules.specs.Edits.{Accepted, Answers, Becomes, IsNamed, MeetsEdit, accepted, accepted_by, bound_to, edited, fault_told, refusal_of_fault, refusal_of_sort, refusal_of_text, set_to, value_fitted, value_read, value_sorted}
+use Rattle.doc_rules.specs.Accepted.{Accepted, accepted, accepted_by, fault_told, refusal_of_fault, unless_any}
+use Rattle.doc_rules.specs.Edits.{Answers, Becomes, IsNamed, MeetsEdit, edited, is_built, made}
+use Rattle.doc_rules.specs.ObjectEdits.{deleted, tests_of_new, with_new}
+use Rattle.doc_rules.specs.ObjectNames.{dynamic_named, is_known}
+use Rattle.doc_rules.specs.PropertyEdits.{dropped, tests_of_added, with_added, with_typed}
+use Rattle.doc_rules.specs.SlotEdits.{bound_to, is_bound, refusal_of_sort, refusal_of_text, set_to, tests_of_unbound, unbound, value_fitted, value_read, value_sorted}
 use Rattle.doc_rules.specs.Refusals.{is_refusal_number}
 
 -- ---- faults
@@ -126,11 +138,62 @@ slot_behind-named d p (Some o) = slot_there-named _
 pub slot_commanded-named : (d : Document) (p : Path) (r : Refusal) → slot_commanded d p ≡ Err r → IsNamed r
 slot_commanded-named d p = slot_behind-named d p (object_commanded d p.owner)
 
+choose-named : {A : Type 0} (b : Bool) (x y : Result A Refusal) → ((r : Refusal) → x ≡ Err r → IsNamed r) → ((r : Refusal) → y ≡ Err r → IsNamed r)
+    → (r : Refusal) → cond b x y ≡ Err r → IsNamed r
+choose-named true x y p q r e = p r e
+choose-named false x y p q r e = q r e
+
+-- a test with a number that has a name
+abbrev IsNamedTest : Bool × ℕ → Type 0
+IsNamedTest test = IsTrue (is_refusal_number test.1)
+
+unless_any-named : {A : Type 0} (tests : List (Bool × ℕ)) (x : Result A Refusal) → AllByRecursion IsNamedTest tests → ((r : Refusal) → x ≡ Err r → IsNamed r)
+    → (r : Refusal) → unless_any tests x ≡ Err r → IsNamed r
+unless_any-named [] x all p = p
+unless_any-named (test ∷ tests) x all p =
+    choose-named test.0 (Err (refused test.1)) (unless_any tests x) (named-is (refused test.1) all.0 _ refl) (unless_any-named tests x all.1 p)
+
+object_there-named : (found : Option Object) (r : Refusal) → object_there found ≡ Err r → IsNamed r
+object_there-named None = named-is (refused no_object) refl _ refl
+object_there-named (Some o) = λ r e. absurd (cc)
+
+property_there-named : (o : Object) (known : Bool) (found : Option Property) (r : Refusal) → property_there o known found ≡ Err r → IsNamed r
+property_there-named o known (Some p) = λ r e. absurd (cc)
+property_there-named o true None = named-is (refused not_dynamic) refl _ refl
+property_there-named o false None = named-is (refused no_property) refl _ refl
+
+property_in-named : (d : Document) (name : SlotName) (o : Object) (r : Refusal) → property_in d name o ≡ Err r → IsNamed r
+property_in-named d (Plain name) o = property_there-named o (is_known d o name) (dynamic_named o name)
+property_in-named d (Component name k) o = named-is (refused no_property) refl _ refl
+property_in-named d (Marked p) o = named-is (refused no_property) refl _ refl
+
+property_commanded-named : (d : Document) (p : Path) (r : Refusal) → property_commanded d p ≡ Err r → IsNamed r
+property_commanded-named d p = on_one-named _ (object_there (object_commanded d p.owner)) (property_in-named d p.slot) (object_there-named _)
+
+with_typed-named : (d : Document) (o : Object) (name : List ℕ) (type : Option PropType) (r : Refusal) → with_typed d o name type ≡ Err r → IsNamed r
+with_typed-named d o name None = named-is (refused wrong_type) refl _ refl
+with_typed-named d o name (Some type) = accepted-named _
+
+unbound-named : (m : Meanings) (clean : Bool) (d : Document) (s : Slot) (r : Refusal) → unbound m clean d s ≡ Err r → IsNamed r
+unbound-named m clean d s =
+    unless_any-named (tests_of_unbound clean d s) _ (refl, (refl, tt)) (on_one-named _ (value_fitted (full m d s)) (λ v. accepted-named _) (value_fitted-named _))
+
+made-named : (plans : List Slots) (m : Meanings) (clean : Bool) (d : Document) (e : Edit) (r : Refusal) → made plans m clean d e ≡ Err r → IsNamed r
+made-named plans m clean d (New type name) = unless_any-named (tests_of_new plans d type name) _ (refl, (refl, (refl, (refl, tt)))) (accepted-named _)
+made-named plans m clean d (Delete name) = on_one-named _ (object_of d name) (λ o. accepted-named _) (object_there-named _)
+made-named plans m clean d (Add owner type name) =
+    on_one-named _ (object_of d owner) (λ o. unless_any-named (tests_of_added o name) _ (refl, (refl, (refl, tt))) (with_typed-named d o name _)) (object_there-named _)
+made-named plans m clean d (DropProperty path) = on_one-named _ (property_commanded d path) (λ found. accepted-named _) (property_commanded-named d path)
+made-named plans m clean d (SetValue path text) = on_one-named _ (slot_commanded d path) (λ s. set_to-named d s _) (slot_commanded-named d path)
+made-named plans m clean d (Bind path text) = on_one-named _ (slot_commanded d path) (λ s. bound_to-named d s _) (slot_commanded-named d path)
+made-named plans m clean d (Unbind path) = on_one-named _ (slot_commanded d path) (unbound-named m clean d) (slot_commanded-named d path)
+made-named plans m clean d _ = named-is (refused not_built) refl _ refl
+
 -- an edit is refused with a number that has a name
 pub edited-named : (plans : List Slots) (m : Meanings) (clean : Bool) (d : Document) (e : Edit) (r : Refusal) → edited plans m clean d e ≡ Err r → IsNamed r
 unfolding edited
-edited-named plans m clean d (SetValue path text) = on_one-named _ (slot_commanded d path) (λ s. set_to-named d s _) (slot_commanded-named d path)
-edited-named plans m clean d (Bind path text) = on_one-named _ (slot_commanded d path) (λ s. bound_to-named d s _) (slot_commanded-named d path)
+edited-named plans m clean d e =
+    choose-named (is_built e) (made plans m clean d e) (Err (refused not_built)) (made-named plans m clean d e) (named-is (refused not_built) refl _ refl)
 
 -- ---- what is accepted
 
@@ -160,10 +223,42 @@ bound_to-plain d s (Err f) a h = absurd (cc)
 set_to-plain : (d : Document) (s : Slot) (found : Result Tree ExprFault) (a : Accepted) → set_to d s found ≡ Ok a → IsPlain a
 set_to-plain d s found = on_one-plain _ (value_read d s found) (λ v. accepted-plain _)
 
+choose-plain : (b : Bool) (x y : Result Accepted Refusal) → ((a : Accepted) → x ≡ Ok a → IsPlain a) → ((a : Accepted) → y ≡ Ok a → IsPlain a)
+    → (a : Accepted) → cond b x y ≡ Ok a → IsPlain a
+choose-plain true x y p q a e = p a e
+choose-plain false x y p q a e = q a e
+
+refused-plain : (told : Refusal) (x : Result Accepted Refusal) → x ≡ Err told → (a : Accepted) → x ≡ Ok a → IsPlain a
+refused-plain told x is a e = absurd (cc)
+
+unless_any-plain : (tests : List (Bool × ℕ)) (x : Result Accepted Refusal) → ((a : Accepted) → x ≡ Ok a → IsPlain a)
+    → (a : Accepted) → unless_any tests x ≡ Ok a → IsPlain a
+unless_any-plain [] x p = p
+unless_any-plain (test ∷ tests) x p = choose-plain test.0 (Err (refused test.1)) (unless_any tests x) (refused-plain (refused test.1) _ refl) (unless_any-plain tests x p)
+
+with_typed-plain : (d : Document) (o : Object) (name : List ℕ) (type : Option PropType) (a : Accepted) → with_typed d o name type ≡ Ok a → IsPlain a
+with_typed-plain d o name None = refused-plain (refused wrong_type) _ refl
+with_typed-plain d o name (Some type) = accepted-plain _
+
+unbound-plain : (m : Meanings) (clean : Bool) (d : Document) (s : Slot) (a : Accepted) → unbound m clean d s ≡ Ok a → IsPlain a
+unbound-plain m clean d s =
+    unless_any-plain (tests_of_unbound clean d s) _
+    (on_one-plain (λ (v : Value). accepted (with_content d s (Own v))) (value_fitted (full m d s)) (λ v. accepted-plain (with_content d s (Own v))))
+
+made-plain : (plans : List Slots) (m : Meanings) (clean : Bool) (d : Document) (e : Edit) (a : Accepted) → made plans m clean d e ≡ Ok a → IsPlain a
+made-plain plans m clean d (New type name) = unless_any-plain (tests_of_new plans d type name) _ (accepted-plain _)
+made-plain plans m clean d (Delete name) = on_one-plain _ (object_of d name) (λ o. accepted-plain _)
+made-plain plans m clean d (Add owner type name) = on_one-plain _ (object_of d owner) (λ o. unless_any-plain (tests_of_added o name) _ (with_typed-plain d o name _))
+made-plain plans m clean d (DropProperty path) = on_one-plain _ (property_commanded d path) (λ found. accepted-plain _)
+made-plain plans m clean d (SetValue path text) = on_one-plain _ (slot_commanded d path) (λ s. set_to-plain d s _)
+made-plain plans m clean d (Bind path text) = on_one-plain _ (slot_commanded d path) (λ s. bound_to-plain d s _)
+made-plain plans m clean d (Unbind path) = on_one-plain _ (slot_commanded d path) (unbound-plain m clean d)
+made-plain plans m clean d _ = refused-plain (refused not_built) _ refl
+
 pub edited-plain : (plans : List Slots) (m : Meanings) (clean : Bool) (d : Document) (e : Edit) (a : Accepted) → edited plans m clean d e ≡ Ok a → IsPlain a
 unfolding edited
-edited-plain plans m clean d (SetValue path text) = on_one-plain _ (slot_commanded d path) (λ s. set_to-plain d s _)
-edited-plain plans m clean d (Bind path text) = on_one-plain _ (slot_commanded d path) (λ s. bound_to-plain d s _)
+edited-plain plans m clean d e =
+    choose-plain (is_built e) (made plans m clean d e) (Err (refused not_built)) (made-plain plans m clean d e) (refused-plain (refused not_built) _ refl)
 
 -- an edit that is accepted leads to a valid document
 pub edited-valid : (plans : List Slots) (m : Meanings) (clean : Bool) (d : Document) (e : Edit) (a : Accepted) → edited plans m clean d e ≡ Ok a → IsValid a.document
@@ -189,6 +284,35 @@ pub becomes-valid : (before after : Numbered) (found : Result Accepted Refusal) 
     → Becomes before found (Ok after) → IsValid after.document
 becomes-valid before after (Ok a) plain h = let P : Document → Type 0 = IsValid in subst P (sym h.0) (plain a refl).valid
 becomes-valid before after (Err r) plain h = absurd h
+
+-- a test that holds, and one that does not
+pub by-true : {A : Type 0} (b : Bool) (x y : Result A Refusal) (result : Result A EditFault) → b ≡ true → Answers {A = A} x result → Answers {A = A} (cond b x y) result
+by-true true x y result e h = h
+by-true false x y result e h = absurd (cc)
+
+pub by-false : {A : Type 0} (b : Bool) (x y : Result A Refusal) (result : Result A EditFault) → b ≡ false → Answers {A = A} y result → Answers {A = A} (cond b x y) result
+by-false true x y result e h = absurd (cc)
+by-false false x y result e h = h
+
+-- a refusal of a test is the answer whatever stands behind the tests
+pub tests-refused : {A B : Type 0} (tests : List (Bool × ℕ)) (x : A) (told : Refusal) → Answers {A = A} (unless_any tests (Ok x)) (Err (Refused told))
+    → (y : Result B Refusal) → unless_any tests y ≡ Err told
+tests-refused [] x told h y = absurd h
+tests-refused {A} {B} (test ∷ tests) x told h y =
+    elim test.0 as (λ b. Answers {A = A} (cond b (Err (refused test.1)) (unless_any tests (Ok x))) (Err (Refused told)) → cond b (Err (refused test.1)) (unless_any tests y) ≡ Err told) [
+      | true ↦ λ k. let same : told ≡ refused test.1 = k in ap Err (sym same)
+      | false ↦ λ k. tests-refused tests x told k y
+    ] h
+
+-- where no test holds, what stands behind them is the answer
+pub tests-passed : {A B : Type 0} (tests : List (Bool × ℕ)) (x told : A) → Answers {A = A} (unless_any tests (Ok x)) (Ok told)
+    → (y : Result B Refusal) → unless_any tests y ≡ y
+tests-passed [] x told h y = refl
+tests-passed {A} {B} (test ∷ tests) x told h y =
+    elim test.0 as (λ b. Answers {A = A} (cond b (Err (refused test.1)) (unless_any tests (Ok x))) (Ok told) → cond b (Err (refused test.1)) (unless_any tests y) ≡ y) [
+      | true ↦ λ k. absurd k
+      | false ↦ λ k. tests-passed tests x told k y
+    ] h
 
 -- with a value it is the edit of that value
 pub becomes-valued : (t : Numbered) (g : Value → Result Accepted Refusal) (found : Result Value Refusal) (v : Value) (result : Result Numbered EditFault)

@@ -9,3 +9,7 @@ pub mod EditLemmas
 pub mod SlotLemmas
 pub mod FormLemmas
 pub mod ShapeLemmas
+pub mod NameLemmas
+pub mod OutcomeForm
+pub mod FewLemmas
+pub mod BecomesLemmas

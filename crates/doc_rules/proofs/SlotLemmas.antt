@@ -32,7 +32,7 @@ type-fits t holds now None n h = tt
 type-fits t holds now (Some p) n h = type_at-one_slot t holds n (now p) (sym h)
 
 -- the object of a command stands in the document
-commanded-in : (d : Document) (owner : Owner) (o : Object) → object_commanded d owner ≡ Some o → IsIn o d.objects
+pub commanded-in : (d : Document) (owner : Owner) (o : Object) → object_commanded d owner ≡ Some o → IsIn o d.objects
 commanded-in d Here o e = absurd (cc)
 commanded-in d (ByName name) o e = from_find (λ (q : Object). same_text q.name name) d.objects o e
 commanded-in d (ByLabel label) o e = from_find (λ (q : Object). same_text q.label label) d.objects o e

@@ -1,121 +1,61 @@
 -- What an edit makes of a document.
-use Rattle.std.specs.Prelude.{◌≡◌, ℕ, Bool, List, [], ◌∷◌, Option, Some, None, Result, Ok, Err, IsTrue}
+use Rattle.std.specs.Prelude.{◌≡◌, ℕ, Bool, true, false, not, [], ◌∷◌, List, Option, Some, None, Result, Ok, Err, IsTrue, codes, if◌then◌else◌}
 use Rattle.fc_base.specs.declared.ids.SlotId.{SlotId}
-use Rattle.object_paths.specs.Slots.{Slot}
-use Rattle.property_types.specs.declared.value.Value.{Value}
-use Rattle.property_types.specs.declared.value.ValueFault.TheVariants.{Range}
+use Rattle.object_paths.specs.Slots.{Slot, same_text}
+use Rattle.property_types.specs.declared.prop_type.PropType.TheVariants.{Placement}
 use Rattle.property_types.specs.Plans.{Slots}
+use Rattle.property_types.specs.Reserved.{is_among}
+use Rattle.property_types.specs.Types.{type_name_of}
 use Rattle.property_types.specs.Values.{Outcome}
-use Rattle.expr_grammar.specs.declared.fault.ExprFault.{ExprFault}
 use Rattle.expr_grammar.specs.Parse.{expression_in, closed_expression_in}
-use Rattle.expr_tree.specs.Tree.{Tree}
-use Rattle.expr_eval.specs.declared.sort_cause.SortCause.{SortCause}
-use Rattle.expr_eval.specs.declared.sort_cause.SortCause.TheVariants.{KindMismatch}
 use Rattle.expr_eval.specs.Firsts.{on_one}
-use Rattle.expr_eval.specs.Outcomes.{Reading, outcome_of}
-use Rattle.expr_eval.specs.SortRows.{SortOutcome}
-use Rattle.expr_eval.specs.Sorts.{SortReading, sort_of}
-use Rattle.document_model.specs.declared.content.Content.TheVariants.{Own, Bound}
 use Rattle.document_model.specs.Document.{Document}
-use Rattle.document_model.specs.Edited.{with_content}
-use Rattle.document_model.specs.Slots.{type_of}
-use Rattle.document_outcomes.specs.Faults.{Fault, first_fault, number_of_cause}
-use Rattle.document_outcomes.specs.Full.{Meanings, fitted, full}
-use Rattle.document_outcomes.specs.RefusalNumbers.{out_of_range, expr_syntax, not_built}
-use Rattle.document_outcomes.specs.Sorts.{bound_sort}
+use Rattle.document_outcomes.specs.Full.{Meanings, full}
+use Rattle.document_outcomes.specs.RefusalNumbers.{not_built}
 use Rattle.doc_tables.specs.Numbered.{Numbered, Keeps, slot_at}
 use Rattle.doc_rules.specs.declared.edit.Edit.{Edit}
-use Rattle.doc_rules.specs.declared.edit.Edit.TheVariants.{SetValue, Bind}
+use Rattle.doc_rules.specs.declared.edit.Edit.TheVariants.{New, Delete, Add, DropProperty, SetValue, Bind, Unbind}
 use Rattle.doc_rules.specs.declared.edit_fault.EditFault.{EditFault}
 use Rattle.doc_rules.specs.declared.edit_fault.EditFault.TheVariants.{Refused, Memory}
-use Rattle.doc_rules.specs.declared.fault.DocFault.{DocFault}
 use Rattle.doc_rules.specs.declared.refusal.Refusal.{Refusal}
-use Rattle.doc_rules.specs.Commanded.{refused, slot_commanded}
+pub use Rattle.doc_rules.specs.Accepted.{Accepted, fault_told, refusal_of_fault}
+use Rattle.doc_rules.specs.Commanded.{object_of, property_commanded, refused, slot_commanded}
+use Rattle.doc_rules.specs.ObjectEdits.{deleted, with_new}
+use Rattle.doc_rules.specs.PropertyEdits.{dropped, with_added}
 use Rattle.doc_rules.specs.Refusals.{is_refusal_number}
+use Rattle.doc_rules.specs.SlotEdits.{bound_to, set_to, unbound}
 
--- A document behind an edit, and how many references were written anew.
-pub record Accepted : Type 0 where
-  pub document : Document
-  pub references : ℕ
+-- the types of objects that are not built
+abbrev pub unbuilt_types : List (List ℕ)
+unbuilt_types = codes "Spreadsheet::Sheet" ∷ codes "App::Link" ∷ []
 
--- ---- why an edit is refused
+-- an edit that is built; properties with more slots than one are not
+abbrev pub is_built : Edit → Bool
+is_built (New type name) = not (is_among type unbuilt_types)
+is_built (Add owner type name) = not (same_text type (type_name_of Placement))
+is_built _ = true
 
--- a subject, where it is not empty
-abbrev pub subject_told : List ℕ → Option (List ℕ)
-subject_told [] = None
-subject_told (byte ∷ bytes) = Some (byte ∷ bytes)
+-- The document behind an edit that is built, or the first reason why it is refused: that a name or a
+-- path of it names nothing comes first, and a fault of the edited document last. A slot that may not be
+-- changed would be refused as soon as its path is followed; there is none today.
+abbrev pub made : List Slots → Meanings → Bool → Document → Edit → Result Accepted Refusal
+made plans m clean d (New type name) = with_new plans d type name
+made plans m clean d (Delete name) = on_one (deleted d) (object_of d name)
+made plans m clean d (Add owner type name) = on_one (with_added d type name) (object_of d owner)
+made plans m clean d (DropProperty path) = on_one (dropped d) (property_commanded d path)
+made plans m clean d (SetValue path text) = on_one (λ s. set_to d s (closed_expression_in text)) (slot_commanded d path)
+made plans m clean d (Bind path text) = on_one (λ s. bound_to d s (expression_in text)) (slot_commanded d path)
+made plans m clean d (Unbind path) = on_one (unbound m clean d) (slot_commanded d path)
+made plans m clean d _ = Err (refused not_built)
 
--- a fault that the edited document would have
-abbrev pub refusal_of_fault : Fault → Refusal
-refusal_of_fault f = record { number = f.number; subject = subject_told f.subject; place = None }
-
--- a fault as it was told
-abbrev pub fault_told : DocFault → Fault
-fault_told told = record { number = told.number; subject = told.subject }
-
--- an expression that cannot be read, with its place
-abbrev pub refusal_of_text : ExprFault → Refusal
-refusal_of_text f = record { number = expr_syntax; subject = None; place = Some f.place }
-
--- an expression without the sort that is wanted
-abbrev pub refusal_of_sort : SortCause → Refusal
-refusal_of_sort cause = refused (number_of_cause cause)
-
--- ---- the edits
-
--- the edited document, unless it has a fault
-abbrev pub accepted_by : Document → Option Fault → Result Accepted Refusal
-accepted_by d None = Ok (record { document = d; references = 0 })
-accepted_by d (Some f) = Err (refusal_of_fault f)
-
-abbrev pub accepted : Document → Result Accepted Refusal
-accepted d = accepted_by d (first_fault d)
-
--- a slot bound to what was read
-abbrev pub bound_to : Document → Slot → Result Tree ExprFault → Result Accepted Refusal
-bound_to d s (Ok e) = accepted (with_content d s (Bound e))
-bound_to d s (Err f) = Err (refusal_of_text f)
-
--- what stands behind the references of a closed expression: it has none, and nothing rests on these
-abbrev pub no_sorts : SortReading
-no_sorts = record { at = λ k. Err KindMismatch; inside = λ k. [] }
-
-abbrev pub no_outcomes : Reading
-no_outcomes = record { at = λ k. Err Range; inside = λ k. [] }
-
--- the value that a slot is given; a fault is outside its type
-abbrev pub value_fitted : Outcome → Result Value Refusal
-value_fitted (Ok v) = Ok v
-value_fitted (Err fault) = Err (refused out_of_range)
-
--- the value of a closed expression in a slot, by the sort that it has there
-abbrev pub value_sorted : Document → Slot → Tree → SortOutcome → Result Value Refusal
-value_sorted d s e (Ok sort) = value_fitted (fitted (type_of d s) (outcome_of no_outcomes 0 e))
-value_sorted d s e (Err cause) = Err (refusal_of_sort cause)
-
--- the value of a closed expression, as the slot's type has it
-abbrev pub value_given : Document → Slot → Tree → Result Value Refusal
-value_given d s e = value_sorted d s e (bound_sort (type_of d s) (sort_of no_sorts 0 e))
-
--- the same of what was read
-abbrev pub value_read : Document → Slot → Result Tree ExprFault → Result Value Refusal
-value_read d s (Ok e) = value_given d s e
-value_read d s (Err f) = Err (refusal_of_text f)
-
--- a slot set to what was read
-abbrev pub set_to : Document → Slot → Result Tree ExprFault → Result Accepted Refusal
-set_to d s found = on_one (λ v. accepted (with_content d s (Own v))) (value_read d s found)
-
--- The document behind an edit, or the first reason why it is refused: that its path names nothing
--- comes first, and a fault of the edited document last.
+-- The document behind an edit, or the first reason why it is refused: before all else that it is not
+-- built.
 -- Beside the document an edit may look at three things: the plans of the features at hand, which tell
 -- the kind of a new object; and for an edit that takes the outcome of a slot for its value, what
 -- features and placements give, and whether the document is clean, that is, recomputed since its last
--- edit. Such an edit is refused with NotRecomputed where it is not. The edits of today look at none.
+-- edit. Such an edit is refused with NotRecomputed where it is not.
 unfoldable pub edited : List Slots → Meanings → Bool → Document → Edit → Result Accepted Refusal
-edited plans m clean d (SetValue path text) = on_one (λ s. set_to d s (closed_expression_in text)) (slot_commanded d path)
-edited plans m clean d (Bind path text) = on_one (λ s. bound_to d s (expression_in text)) (slot_commanded d path)
-edited plans m clean d _ = Err (refused not_built)
+edited plans m clean d e = if is_built e then made plans m clean d e else Err (refused not_built)
 
 -- ---- what a call is handed
 

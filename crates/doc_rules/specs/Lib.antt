@@ -1,7 +1,13 @@
+pub mod Accepted
 pub mod Commanded
 pub mod EditFaults
 pub mod Edits
+pub mod ObjectEdits
+pub mod ObjectNames
+pub mod OutcomesKept
+pub mod PropertyEdits
 pub mod Refusals
 pub mod Found
 pub mod KindFaults
+pub mod SlotEdits
 pub mod SortTables

@@ -11,6 +11,7 @@
 //! `worked_documents/src/faults.rt`, and by whole scripts in `tests/conformance`.
 #![tactic(auto)]
 
+mod accepting;
 mod checking;
 mod closed;
 mod commanded;
@@ -23,8 +24,11 @@ mod labels;
 pub mod laws;
 mod limits;
 pub mod numbers;
+mod object_edits;
+mod property_edits;
 mod references;
 mod refusal;
+mod slot_edits;
 mod sort_rules;
 mod sorts;
 mod sorts_behind;

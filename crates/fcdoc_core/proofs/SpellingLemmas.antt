@@ -316,6 +316,7 @@ spelled_is_read line (command.Edit (Bind path expr)) plain (target, text, spelle
     by_cut line _ _ plain (cut_three line (codes "bind") target expr text (plain_target target path text.path spelled).word refl (omega arith) (path_word target path spelled))
     (ap (option_map (λ x. command.Edit (Bind x.0 x.1))) (text_is target text.further expr path text.path text.unspaced text.some spelled))
 spelled_is_read line command.Recompute plain one = by_cut line _ _ plain (cut_one line (codes "recompute") one refl) refl
+spelled_is_read line (command.Edit edit) plain none = absurd none
 
 -- ---- what is read was spelled
 

@@ -18,7 +18,6 @@ use Rattle.doc_rules.specs.declared.refusal.Refusal.{Refusal}
 use Rattle.doc_rules.specs.Commanded.{refused, slot_commanded}
 use Rattle.doc_rules.specs.Edits.{Accepted, edited}
 use Rattle.doc_rules.specs.declared.edit.Edit.{Edit}
-use Rattle.doc_rules.specs.declared.edit.Edit.TheVariants.{SetValue, Bind}
 use Rattle.fcdoc_core.specs.declared.command.Command.{Command}
 use Rattle.fcdoc_core.specs.declared.command.Command.TheVariants as command
 use Rattle.fcdoc_core.specs.declared.reply.Reply.{Reply}
@@ -94,8 +93,7 @@ expression_told d path = on_one (λ slot. Ok (reply.Expression (expression_by_ru
 
 -- the reply to an edit that was made, by how many references were written anew
 abbrev pub reply_of_edit : Edit → ℕ → Reply
-reply_of_edit (SetValue path text) references = reply.Ok
-reply_of_edit (Bind path text) references = reply.Ok
+reply_of_edit edit references = reply.Ok
 
 -- an edit: a refused one changes nothing
 abbrev pub edited_to : State → Edit → Result Accepted Refusal → Stepped

@@ -69,13 +69,14 @@ pub record IsPathAndText (line verb target tail : List ℕ) : Type 0 where
   pub unspaced : IsUnspaced tail
   pub some : 0 < length tail
 
--- the line spells the command
+-- the line spells the command; no line spells any other edit
 abbrev pub Spells : List ℕ → Command → Type 0
 Spells line (command.Get path) = (target : List ℕ) × IsWordAndPath line (codes "get") target × (property_of target ≡ Some path)
 Spells line (command.Expression path) = (target : List ℕ) × IsWordAndPath line (codes "expr") target × (property_of target ≡ Some path)
 Spells line (command.Edit (SetValue path expr)) = (target : List ℕ) × IsPathAndText line (codes "set") target expr × (property_of target ≡ Some path)
 Spells line (command.Edit (Bind path expr)) = (target : List ℕ) × IsPathAndText line (codes "bind") target expr × (property_of target ≡ Some path)
 Spells line command.Recompute = IsOneWord line (codes "recompute")
+Spells line (command.Edit edit) = ⊥
 
 -- the line has no control character other than tab, and spells the command
 pub record IsLineOf (line : List ℕ) (c : Command) : Type 0 where

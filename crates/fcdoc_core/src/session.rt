@@ -55,12 +55,10 @@ impl Model for Session {
 }
 
 /// The reply to an edit that was made, by how many references were written anew.
-fn reply_of_edit(edit: &Edit, _references: u64) -> Reply
-    ensures { result ≡ reply_of_edit edit.now _references }
+fn reply_of_edit(_edit: &Edit, _references: u64) -> Reply
+    ensures { result ≡ reply_of_edit _edit.now _references }
 {
-    match edit {
-        Edit::SetValue { .. } | Edit::Bind { .. } => Reply::Ok,
-    }
+    Reply::Ok
 }
 
 impl Session {

@@ -4,13 +4,14 @@ use Rattle.document_model.specs.Slots.{type_of}
 use Rattle.document_model.proofs.Members.{and_then_some}
 use Rattle.expr_grammar.specs.Parse.{closed_expression_in}
 use Rattle.doc_tables.specs.Numbered.{slot_at}
-use Rattle.doc_rules.specs.Edits.{accepted, value_read}
+use Rattle.doc_rules.specs.Accepted.{accepted}
+use Rattle.doc_rules.specs.SlotEdits.{value_read}
 use Rattle.doc_rules.proofs.EditLemmas.{becomes-valued}
 use Rattle.doc_rules.proofs.FormLemmas.{answers-is, text-content}
-use Rattle.doc_rules.proofs.editing.with_value.Goals as goal
+use Rattle.doc_rules.proofs.slot_edits.with_value.Goals as goal
 
-pub accepted-requires-clause-content : goal.accepted-requires-clause-content
-accepted-requires-clause-content c = λ type typed.
+pub with_content-requires-clause-content : goal.with_content-requires-clause-content
+with_content-requires-clause-content c = λ type typed.
     let t = c.args.tables.now in
     let v = c.in_ok-value.value in
     let at = and_then_some (type_of t.document) (slot_at t c.args.slot.0) type typed in
@@ -19,6 +20,7 @@ accepted-requires-clause-content c = λ type typed.
 
 pub returns : goal.returns
 returns c = λ s at.
-    becomes-valued c.args.tables.now (λ v. accepted (with_content c.args.tables.now.document s (Own v)))
-    (value_read c.args.tables.now.document s (closed_expression_in c.args.text.now)) c.in_ok-value.value c.accepted.result
-    (c.in_ok-value.ensures s at) (c.accepted.ensures s at)
+    let t = c.args.tables.now in
+    becomes-valued t (λ v. accepted (with_content t.document s (Own v)))
+    (value_read t.document s (closed_expression_in c.args.text.now)) c.in_ok-value.value c.accepted.result
+    (c.in_ok-value.ensures s at) (c.accepted.ensures t (with_content t.document s (Own c.in_ok-value.value)) (c.in_ok-edited.ensures s at))

@@ -1,7 +1,7 @@
 use Rattle.std.proofs.Common.{ap, subst, ◌∙◌}
 use Rattle.document_model.specs.Edited.{with_content}
 use Rattle.doc_tables.specs.Numbered.{Numbered, LeadsTo, slot_at}
-use Rattle.doc_rules.proofs.editing.with_content.Goals as goal
+use Rattle.doc_rules.proofs.slot_edits.with_content.Goals as goal
 
 pub returns : goal.returns
 returns c = λ s at.
